@@ -1,0 +1,6 @@
+-- The laws of byte memories.
+pub mod Search
+pub mod Patch
+pub mod Splice
+pub mod Values
+pub mod Frame

@@ -1,0 +1,18 @@
+-- `fields::allows` meets its contract, kind by kind. Assumes nothing.
+use Rattle.fields.specs.Fields.{allowed}
+use mathlib.Core.Path.{refl}
+use borrow.Author.Tests.{eq-eqb, ne-eqb}
+use borrow.Author.Needs.{needs}
+use Rattle.fields.proofs.allows.Statement.{statement}
+use Rattle.fields.proofs.allows.Tie as tie
+
+pub allows-spec : {M : Type 1} → statement M
+unfolding allowed
+allows-spec =
+    tie.close
+    (tie.spec
+    (λ c κs. search needs)
+    (λ c. rw (eq-eqb _ 2 (c .before .if1 .taken)) (c .is-letter .ensures))
+    (λ c κs. search needs)
+    (λ c. rw (ne-eqb _ 2 (c .before .before .if1 .left), eq-eqb _ 3 (c .before .if2 .taken)) (c .is-digit .ensures))
+    (λ c. rw (ne-eqb _ 2 (c .before .if1 .left), ne-eqb _ 3 (c .if2 .left)) refl))

@@ -1,0 +1,111 @@
+-- Fields (document 01, 'Memory and state'), said of the marks alone, one for each cell in reading order: enhancements do not enter. Rows have 80 cells.
+-- Assumes nothing.
+use Prim.Native.Nat.{ℕ, suc, _+_, _-_, _*_, _/_, _%_, min, _≤_, _<_}
+use mathlib.Core.Bool.{Bool, true, cond, _&&_, _||_, not}
+use mathlib.Core.List.{List, [], _∷_, map}
+use mathlib.Core.Path.{_≡_}
+use lib.ListN.{length, getD}
+use lib.Dec.{leb, eqb}
+use Rattle.cells.specs.declared.Found.{Found}
+use Rattle.cells.specs.declared.Found.the-variants.{At, Nothing}
+use Rattle.cells.specs.Search.{atOr, orElse, firstIn, lastIn, countIn, nthOf}
+
+-- an attribute byte is 16 × enhancement + mark
+abbrev pub markOf : ℕ → ℕ
+markOf a = a % 16
+
+unfoldable pub marks : List ℕ → List ℕ
+marks attrs = map markOf attrs
+
+-- a mark of 1 to top: 1 to 3 start an unprotected field, 4 a transmit-only field, 5 ends a field; 0 and 6 to 15 are no mark
+unfoldable pub isIn : ℕ → ℕ → Bool
+isIn top mark = leb 1 mark && leb mark top
+
+abbrev pub rowStart : ℕ → ℕ
+rowStart cell = cell / 80 * 80
+
+abbrev pub rowEnd : ℕ → ℕ
+rowEnd cell = cell / 80 * 80 + 80
+
+-- the cell past the field's last: the next mark 1 to 5 in that row, or the row's end
+unfoldable pub fieldEnd : List ℕ → ℕ → ℕ
+fieldEnd ms cell = atOr (rowEnd cell) (firstIn (isIn 5) ms (cell + 1) (rowEnd cell))
+
+-- the kind of cell i, whose mark is m: its own mark 1 to 5, or the kind of the cell before it in its row, 0 where there is none
+abbrev pub kindAfter : ℕ → ℕ → ℕ → ℕ
+kindAfter i before m = cond (isIn 5 m) m (cond (eqb (i % 80) 0) 0 before)
+
+-- the kinds of the cells i, i + 1, .., whose marks are given; and of all cells
+unfoldable pub kindsFrom : ℕ → ℕ → List ℕ → List ℕ
+kindsFrom i before [] = []
+kindsFrom i before (m ∷ ms) =
+    let k = kindAfter i before m in
+    k ∷ kindsFrom (suc i) k ms
+
+unfoldable pub kinds : List ℕ → List ℕ
+kinds ms = kindsFrom 0 0 ms
+
+-- the mark that governs a cell: 1 to 4 in a field, 5 behind one, 0 where the row has no mark before
+unfoldable pub kindAt : List ℕ → ℕ → ℕ
+kindAt ms cell = getD (kinds ms) cell 0
+
+-- fields of marks 1 to 3 are unprotected; all other cells are protected
+unfoldable pub unprotected : List ℕ → ℕ → Bool
+unprotected ms cell = isIn 3 (kindAt ms cell)
+
+-- the cell belongs to the field that starts at start
+pub record InField (ms : List ℕ) (start cell : ℕ) : Type 0 where
+  pub starts : isIn 4 (getD ms start 0) ≡ true
+  pub from : start ≤ cell
+  pub upto : cell < fieldEnd ms start
+
+-- home: the first field whose mark is 1 to top
+unfoldable pub firstStart : ℕ → List ℕ → Found
+firstStart top ms = firstIn (isIn top) ms 0 (length ms)
+
+-- tab: the first unprotected field start after the cell in reading order, else the first of all
+unfoldable pub nextStart : List ℕ → ℕ → Found
+nextStart ms cell = orElse (firstIn (isIn 3) ms (cell + 1) (length ms)) (firstIn (isIn 3) ms 0 (length ms))
+
+-- back tab mirrors this: the last unprotected field start before the cell, else the last of all
+unfoldable pub prevStart : List ℕ → ℕ → Found
+prevStart ms cell = orElse (lastIn (isIn 3) ms 0 cell) (lastIn (isIn 3) ms 0 (length ms))
+
+-- posts count unprotected fields from 0 in reading order: where field n starts
+unfoldable pub nthField : List ℕ → ℕ → Found
+nthField ms n = nthOf (isIn 3) n 0 ms
+
+-- the number of the unprotected field that holds a cell; and whether field n holds it
+unfoldable pub fieldNumber : List ℕ → ℕ → ℕ
+fieldNumber ms cell = countIn (isIn 3) ms 0 (cell + 1) - 1
+
+unfoldable pub holds : List ℕ → ℕ → ℕ → Bool
+holds ms n cell = unprotected ms cell && eqb (fieldNumber ms cell) n
+
+-- text, format on: the cell that takes it is the cursor cell if unprotected, else the next field start as for tab
+unfoldable pub target : List ℕ → ℕ → Found
+target ms cell = cond (unprotected ms cell) (At cell) (nextStart ms cell)
+
+-- letters fields take A-Z, a-z and blank; digits fields 0-9 and blank; any other field every character
+abbrev pub within : ℕ → ℕ → ℕ → Bool
+within lo hi v = leb lo v && leb v hi
+
+unfoldable pub letter : ℕ → Bool
+letter v = within 65 90 v || within 97 122 v || eqb v 32
+
+unfoldable pub digit : ℕ → Bool
+digit v = within 48 57 v || eqb v 32
+
+unfoldable pub allowed : ℕ → ℕ → Bool
+allowed kind v = cond (eqb kind 2) (letter v) (cond (eqb kind 3) (digit v) true)
+
+-- home down: the row under the last row that has a non-blank, at most the last row; row 0 if all is blank
+abbrev pub nonBlank : ℕ → Bool
+nonBlank v = not (eqb v 32)
+
+abbrev pub rowUnder : ℕ → Found → ℕ
+rowUnder rows (At i) = min (i / 80 + 1) (rows - 1)
+rowUnder rows Nothing = 0
+
+unfoldable pub rowUnderText : ℕ → List ℕ → ℕ
+rowUnderText rows chars = rowUnder rows (lastIn nonBlank chars 0 (length chars))

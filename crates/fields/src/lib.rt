@@ -1,0 +1,278 @@
+// Fields: scans over the attribute memory, rows of 80 cells. A scan stops at the first hit.
+ghost use mathlib.Core.Path.{_≡_};
+ghost use Prim.Native.Nat.{_+_, _*_, _/_, _≤_, _<_};
+ghost use lib.ListN.{length};
+ghost use Rattle.cells.specs.Search.{firstIn, lastIn};
+ghost use Rattle.cells.specs.Memory.{filledWhere};
+ghost use Rattle.fields.specs.Fields.{markOf, marks, isIn, kindAfter, kindAt, unprotected, fieldEnd, firstStart, nextStart, prevStart, nthField, target, within, letter, digit, allowed, nonBlank, rowUnderText};
+use cells::Found;
+
+// Whether a mark is 1 to `top`.
+pub fn is_in(top: u8, mark: u8) -> bool
+    ensures { λ r. ⌜ r ≡ isIn top mark ⌝ }
+{
+    1 <= mark && mark <= top
+}
+
+// Whether an attribute byte's mark is 1 to `top`.
+pub fn has_mark(a: u8, top: u8) -> bool
+    ensures { λ r. ⌜ r ≡ isIn top (markOf a) ⌝ }
+{
+    is_in(top, a % 16)
+}
+
+// The first cell from `from` on, before `to`, whose mark is 1 to `top`.
+pub fn first_between(attrs: &[u8], from: usize, to: usize, top: u8) -> Found
+    requires { ⌜ to ≤ length (now attrs) ⌝ }
+    ensures { λ r. ⌜ r ≡ firstIn (isIn top) (marks (now (attrs .entry))) from to ⌝ }
+{
+    let mut row = from / 80;
+    let mut col = from % 80;
+    'rows: loop {
+        while col < 80 {
+            let cell = row * 80 + col;
+            if to <= cell {
+                break 'rows Found::Nothing;
+            }
+            if has_mark(attrs[cell], top) {
+                break 'rows Found::At(cell);
+            }
+            col += 1;
+        }
+        col = 0;
+        row += 1;
+    }
+}
+
+// The last cell from `from` on, before `to`, whose mark is 1 to `top`.
+pub fn last_between(attrs: &[u8], from: usize, to: usize, top: u8) -> Found
+    requires { ⌜ to ≤ length (now attrs) ⌝ }
+    ensures { λ r. ⌜ r ≡ lastIn (isIn top) (marks (now (attrs .entry))) from to ⌝ }
+{
+    let mut row = to / 80;
+    let mut col = to % 80;
+    'rows: loop {
+        while 0 < col {
+            col -= 1;
+            let cell = row * 80 + col;
+            if cell < from {
+                break 'rows Found::Nothing;
+            }
+            if has_mark(attrs[cell], top) {
+                break 'rows Found::At(cell);
+            }
+        }
+        if row == 0 {
+            break 'rows Found::Nothing;
+        }
+        row -= 1;
+        col = 80;
+    }
+}
+
+// Tab: the first unprotected field start after the cell, else the first of all; no cell is looked at twice.
+pub fn next_start(attrs: &[u8], cell: usize) -> Found
+    requires { ⌜ cell < length (now attrs) ⌝ }
+    ensures { λ r. ⌜ r ≡ nextStart (marks (now (attrs .entry))) cell ⌝ }
+{
+    let after = first_between(attrs, cell + 1, attrs.len(), 3);
+    match after {
+        Found::At(i) => Found::At(i),
+        Found::Nothing => first_between(attrs, 0, cell + 1, 3),
+    }
+}
+
+// Back tab: the last unprotected field start before the cell, else the last of all; no cell is looked at twice.
+pub fn prev_start(attrs: &[u8], cell: usize) -> Found
+    requires { ⌜ cell < length (now attrs) ⌝ }
+    ensures { λ r. ⌜ r ≡ prevStart (marks (now (attrs .entry))) cell ⌝ }
+{
+    let before = last_between(attrs, 0, cell, 3);
+    match before {
+        Found::At(i) => Found::At(i),
+        Found::Nothing => last_between(attrs, cell, attrs.len(), 3),
+    }
+}
+
+// Home: the first field whose mark is 1 to `top`.
+pub fn first_start(attrs: &[u8], top: u8) -> Found
+    ensures { λ r. ⌜ r ≡ firstStart top (marks (now (attrs .entry))) ⌝ }
+{
+    first_between(attrs, 0, attrs.len(), top)
+}
+
+// The kind of cell `i` from its mark and the kind of the cell before it.
+pub fn kind_after(i: usize, before: u8, mark: u8) -> u8
+    ensures { λ r. ⌜ r ≡ kindAfter i before mark ⌝ }
+{
+    if is_in(5, mark) {
+        return mark;
+    }
+    if i % 80 == 0 {
+        return 0;
+    }
+    before
+}
+
+// The mark that governs a cell.
+pub fn kind_at(attrs: &[u8], cell: usize) -> u8
+    requires { ⌜ cell < length (now attrs) ⌝ }
+    ensures { λ r. ⌜ r ≡ kindAt (marks (now (attrs .entry))) cell ⌝ }
+{
+    let start = cell / 80 * 80;
+    let mut i = cell + 1;
+    while start < i {
+        i -= 1;
+        let mark = attrs[i] % 16;
+        if is_in(5, mark) {
+            return mark;
+        }
+    }
+    0
+}
+
+// Whether a cell is unprotected.
+pub fn is_unprotected(attrs: &[u8], cell: usize) -> bool
+    requires { ⌜ cell < length (now attrs) ⌝ }
+    ensures { λ r. ⌜ r ≡ unprotected (marks (now (attrs .entry))) cell ⌝ }
+{
+    is_in(3, kind_at(attrs, cell))
+}
+
+// The cell past the last of the field that holds a cell.
+pub fn field_end(attrs: &[u8], cell: usize) -> usize
+    requires { ⌜ cell / 80 * 80 + 80 ≤ length (now attrs) ⌝ }
+    ensures { λ r. ⌜ r ≡ fieldEnd (marks (now (attrs .entry))) cell ⌝ }
+{
+    let end = cell / 80 * 80 + 80;
+    let mut i = cell + 1;
+    while i < end {
+        if has_mark(attrs[i], 5) {
+            return i;
+        }
+        i += 1;
+    }
+    end
+}
+
+// Where the unprotected field number `n` starts.
+pub fn nth_field(attrs: &[u8], n: usize) -> Found
+    ensures { λ r. ⌜ r ≡ nthField (marks (now (attrs .entry))) n ⌝ }
+{
+    let mut left = n;
+    let mut i = 0;
+    while i < attrs.len() {
+        if has_mark(attrs[i], 3) {
+            if left == 0 {
+                return Found::At(i);
+            }
+            left -= 1;
+        }
+        i += 1;
+    }
+    Found::Nothing
+}
+
+// The cell that takes text with format on.
+pub fn find_target(attrs: &[u8], cell: usize) -> Found
+    requires { ⌜ cell < length (now attrs) ⌝ }
+    ensures { λ r. ⌜ r ≡ target (marks (now (attrs .entry))) cell ⌝ }
+{
+    if is_unprotected(attrs, cell) {
+        return Found::At(cell);
+    }
+    next_start(attrs, cell)
+}
+
+// Whether a byte is `lo` to `hi`.
+pub fn is_within(lo: u8, hi: u8, v: u8) -> bool
+    ensures { λ r. ⌜ r ≡ within lo hi v ⌝ }
+{
+    lo <= v && v <= hi
+}
+
+fn is_letter(v: u8) -> bool
+    ensures { λ r. ⌜ r ≡ letter v ⌝ }
+{
+    if is_within(65, 90, v) {
+        return true;
+    }
+    if is_within(97, 122, v) {
+        return true;
+    }
+    v == 32
+}
+
+fn is_digit(v: u8) -> bool
+    ensures { λ r. ⌜ r ≡ digit v ⌝ }
+{
+    if is_within(48, 57, v) {
+        return true;
+    }
+    v == 32
+}
+
+// Whether a field of a kind takes a character.
+pub fn allows(kind: u8, v: u8) -> bool
+    ensures { λ r. ⌜ r ≡ allowed kind v ⌝ }
+{
+    if kind == 2 {
+        return is_letter(v);
+    }
+    if kind == 3 {
+        return is_digit(v);
+    }
+    true
+}
+
+// Home down: the row under the last row that has a non-blank.
+pub fn row_under_text(chars: &[u8], rows: usize) -> usize
+    requires { ⌜ 0 < rows ⌝ }
+    ensures { λ r. ⌜ r ≡ rowUnderText rows (now (chars .entry)) ⌝ }
+{
+    let mut i = chars.len();
+    while 0 < i {
+        i -= 1;
+        let v = chars[i];
+        if v != 32 {
+            let under = i / 80 + 1;
+            if under < rows {
+                return under;
+            }
+            return rows - 1;
+        }
+    }
+    0
+}
+
+// The last non-blank of the cells `from` to `to - 1`.
+pub fn last_text(chars: &[u8], from: usize, to: usize) -> Found
+    requires { ⌜ to ≤ length (now chars) ⌝ }
+    ensures { λ r. ⌜ r ≡ lastIn nonBlank (now (chars .entry)) from to ⌝ }
+{
+    let mut i = to;
+    while from < i {
+        i -= 1;
+        let v = chars[i];
+        if v != 32 {
+            return Found::At(i);
+        }
+    }
+    Found::Nothing
+}
+
+// The unprotected cells from `from` on become `v`.
+pub fn fill_unprotected(s: &mut [u8], attrs: &[u8], from: usize, v: u8)
+    requires { ⌜ (from < length (now s)) × (length (now attrs) ≡ length (now s)) ⌝ }
+    ensures { λ _. ⌜ now (s .exit) ≡ filledWhere (now (s .entry)) from (unprotected (marks (now (attrs .entry)))) v ⌝ }
+{
+    let mut kind = kind_at(attrs, from);
+    let mut i = from;
+    while i < s.len() {
+        kind = kind_after(i, kind, attrs[i] % 16);
+        if is_in(3, kind) {
+            s[i] = v;
+        }
+        i += 1;
+    }
+}

@@ -1,0 +1,3 @@
+-- What the mixing promise speaks of.
+pub mod Event
+pub mod Mix

@@ -1,0 +1,4 @@
+-- The laws of reading.
+pub mod Computed
+pub mod Rules
+pub mod Numbers

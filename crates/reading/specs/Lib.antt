@@ -1,0 +1,3 @@
+-- The definitions of reading: the actions, and the rules by which a host byte asks for one.
+pub mod Action
+pub mod Reading

@@ -1,0 +1,168 @@
+-- Document 01, 'Reading host bytes': which action a byte asks for in each reading state, by decisions in the document's order.
+-- Assumes nothing.
+use mathlib.Core.Path.{_≡_}
+use mathlib.Core.Bool.{Bool, true, false, cond, _&&_, _||_, not}
+use mathlib.Core.List.{List}
+use Prim.Native.Nat.{ℕ, _+_, _-_, _*_, _%_, _≤_, _<_, min}
+use lib.ListN.{getD}
+use lib.Dec.{eqb, leb, ltb}
+use Rattle.reading.specs.declared.Number.{Number}
+use Rattle.reading.specs.Action.{rest, esc, ack, left, tab, lineFeed, column0, trigger, text, up, down, right, home, homeAll, homeDown, backTab, clearDisplay, clearLine, insertRow, deleteRow, deleteChar, insertOn, insertOff, rollUp, rollDown, nextPage, prevPage, formatOn, formatOff, setTab, clearTab, clearTabs, mark1, mark4, mark5, turn2, turn3, turn1, askAbsolute, askWindow, askStatus, askBlock, lockOff, lockOn, softReset, hardReset, toGroup, toSet, toCursor, toEnhance, toOther, plus, minus, digit, columnOn, columnEnd, rowOn, rowEnd, windowOn, windowEnd, stay, enhance}
+
+abbrev pub within : ℕ → ℕ → ℕ → Bool
+within lo hi b = leb lo b && leb b hi
+
+-- state 0, plain
+abbrev pub inPlain : ℕ → ℕ
+inPlain b =
+    cond (eqb b 5) ack
+    (cond (eqb b 8) left
+    (cond (eqb b 9) tab
+    (cond (eqb b 10) lineFeed
+    (cond (eqb b 13) column0
+    (cond (eqb b 17) trigger
+    (cond (within 32 126 b) text
+    rest))))))
+
+-- state 1, after ESC: each row is a letter's code and its action
+abbrev pub afterEsc : ℕ → ℕ
+afterEsc b =
+    cond (eqb b 65) up  -- A
+    (cond (eqb b 66) down  -- B
+    (cond (eqb b 67) right  -- C
+    (cond (eqb b 68) left  -- D
+    (cond (eqb b 71) column0  -- G
+    (cond (eqb b 72) home  -- H
+    (cond (eqb b 104) homeAll  -- h
+    (cond (eqb b 70) homeDown  -- F
+    (cond (eqb b 73) tab  -- I
+    (cond (eqb b 105) backTab  -- i
+    (cond (eqb b 74) clearDisplay  -- J
+    (cond (eqb b 75) clearLine  -- K
+    (cond (eqb b 76) insertRow  -- L
+    (cond (eqb b 77) deleteRow  -- M
+    (cond (eqb b 80) deleteChar  -- P
+    (cond (eqb b 81) insertOn  -- Q
+    (cond (eqb b 82) insertOff  -- R
+    (cond (eqb b 83) rollUp  -- S
+    (cond (eqb b 84) rollDown  -- T
+    (cond (eqb b 85) nextPage  -- U
+    (cond (eqb b 86) prevPage  -- V
+    (cond (eqb b 87) formatOn  -- W
+    (cond (eqb b 88) formatOff  -- X
+    (cond (eqb b 49) setTab  -- 1
+    (cond (eqb b 50) clearTab  -- 2
+    (cond (eqb b 51) clearTabs  -- 3
+    (cond (eqb b 91) mark1  -- [
+    (cond (eqb b 123) mark4  -- {
+    (cond (eqb b 93) mark5  -- ]
+    (cond (eqb b 54) turn2  -- 6
+    (cond (eqb b 55) turn3  -- 7
+    (cond (eqb b 56) turn1  -- 8
+    (cond (eqb b 97) askAbsolute  -- a
+    (cond (eqb b 96) askWindow  -- `
+    (cond (eqb b 94) askStatus  -- ^
+    (cond (eqb b 100) askBlock  -- d
+    (cond (eqb b 98) lockOff  -- b
+    (cond (eqb b 99) lockOn  -- c
+    (cond (eqb b 103) softReset  -- g
+    (cond (eqb b 69) hardReset  -- E
+    (cond (eqb b 38) toGroup  -- &
+    (cond (eqb b 41) toSet  -- )
+    rest)))))))))))))))))))))))))))))))))))))))))
+
+-- state 2: after ESC &
+abbrev pub inGroup : ℕ → ℕ
+inGroup b =
+    cond (eqb b 97) toCursor
+    (cond (eqb b 100) toEnhance
+    (cond (within 97 122 b) toOther
+    rest))
+
+-- state 3: in ESC & a. Whether a sign may stand here depends on the number so far: `settled`, below, decides it
+abbrev pub inCursor : ℕ → ℕ
+inCursor b =
+    cond (eqb b 43) plus
+    (cond (eqb b 45) minus
+    (cond (within 48 57 b) digit
+    (cond (eqb b 99) columnOn
+    (cond (eqb b 67) columnEnd
+    (cond (eqb b 114) rowOn
+    (cond (eqb b 82) rowEnd
+    (cond (eqb b 121) windowOn
+    (cond (eqb b 89) windowEnd
+    rest))))))))
+
+-- state 4: in ESC & d
+abbrev pub inEnhance : ℕ → ℕ
+inEnhance b = cond (within 64 79 b) enhance rest
+
+-- state 5: in another ESC & group
+abbrev pub inOther : ℕ → ℕ
+inOther b = cond (within 64 90 b || ltb b 32) rest stay
+
+-- one state's rules, for a byte below 128 that is no ESC; state 6 ends after any byte
+abbrev pub inState : ℕ → ℕ → ℕ
+inState s b =
+    cond (eqb s 0) (inPlain b)
+    (cond (eqb s 1) (afterEsc b)
+    (cond (eqb s 2) (inGroup b)
+    (cond (eqb s 3) (inCursor b)
+    (cond (eqb s 4) (inEnhance b)
+    (cond (eqb s 5) (inOther b)
+    rest)))))
+
+-- ESC in any state comes before every other rule
+abbrev pub actionAt : ℕ → ℕ → ℕ
+actionAt s b = cond (eqb b 27) esc (inState s b)
+
+-- the action of a byte in reading state s: a byte counts modulo 128
+unfoldable pub actionOf : ℕ → ℕ → ℕ
+actionOf s byte = actionAt s (byte % 128)
+
+-- a table of 896 entries that equals the rules at each entry
+pub record Tabled (table : List ℕ) : Type 0 where
+  pub entry : (s b : ℕ) → s < 7 → b < 128 → getD table (s * 128 + b) 0 ≡ actionAt s b
+
+-- ---- the number being read: sign 0 none, 1 plus, 2 minus; whether a digit came; a value of 0 to 999
+abbrev pub clear : Number
+clear = record { sign = 0; digit = false; value = 0 }
+
+-- no sign and no digit came yet
+unfoldable pub unbegun : Number → Bool
+unbegun n = eqb (n .sign) 0 && not (n .digit)
+
+-- a sign stands first: after a sign or a digit it is a byte like any other, and ends
+unfoldable pub settled : ℕ → Number → ℕ
+settled a n = cond (eqb a plus || eqb a minus) (cond (unbegun n) a rest) a
+
+-- the number after a settled action, b the byte below 128: above 999 counts as 999; every other action begins the next number or ends
+unfoldable pub counted : ℕ → ℕ → Number → Number
+counted a b n =
+    cond (eqb a plus) (record { sign = 1; digit = false; value = 0 })
+    (cond (eqb a minus) (record { sign = 2; digit = false; value = 0 })
+    (cond (eqb a digit) (record { sign = n .sign; digit = true; value = min 999 (n .value * 10 + (b - 48)) })
+    clear))
+
+-- the reading state after a settled action
+unfoldable pub nextReading : ℕ → ℕ
+nextReading a =
+    cond (eqb a esc) 1
+    (cond (eqb a toGroup) 2
+    (cond (eqb a toCursor || eqb a plus || eqb a minus || eqb a digit || eqb a columnOn || eqb a rowOn || eqb a windowOn) 3
+    (cond (eqb a toEnhance) 4
+    (cond (eqb a toOther || eqb a stay) 5
+    (cond (eqb a toSet) 6
+    0)))))
+
+-- a number that a good state can hold in a reading state: in range, 0 where no digit came, clear outside reading state 3
+unfoldable pub soundNumber : ℕ → Number → Bool
+soundNumber reading n =
+    leb (n .value) 999 && (ltb (n .sign) 3 && ((n .digit || eqb (n .value) 0) && (eqb reading 3 || unbegun n)))
+
+-- the same as facts: `soundNumber reading n` is true exactly where these hold (`sound-in` and `in-sound` of proofs/Numbers.antt)
+pub record SoundNumber (reading : ℕ) (n : Number) : Type 0 where
+  pub value-in : n .value ≤ 999
+  pub sign-in : n .sign < 3
+  pub undigited : n .digit ≡ false → n .value ≡ 0
+  pub cleared : (reading ≡ 3 → ⊥) → n ≡ clear
