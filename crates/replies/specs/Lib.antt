@@ -1,0 +1,2 @@
+-- The definitions of the replies.
+pub mod Replies

@@ -1,0 +1,170 @@
+// The replies, byte by byte. A reply's length is told before it is sent.
+ghost use mathlib.Core.Path.{_≡_};
+ghost use Prim.Native.Nat.{_+_, _*_, _%_, _≤_, _<_};
+ghost use lib.ListN.{length};
+ghost use Rattle.cells.specs.Search.{lastIn};
+ghost use Rattle.cells.specs.Memory.{written};
+ghost use Rattle.fields.specs.Fields.{isIn, nonBlank};
+ghost use Rattle.replies.specs.Replies.{cursorReply, bit, statusReply, fieldsReply, through, rowReply, blockReply};
+use cells::Found;
+
+fn digit(n: usize) -> u8
+    ensures { λ r. ⌜ r ≡ 48 + n % 10 ⌝ }
+{
+    (48 + n % 10) as u8
+}
+
+// ESC & a, three digits of column, c, three of row, the letter, CR.
+pub fn report_cursor(col: usize, row: usize, letter: u8) -> [u8; 12]
+    ensures { λ r. ⌜ r ≡ cursorReply col row letter ⌝ }
+{
+    [
+        27,
+        38,
+        97,
+        digit(col / 100),
+        digit(col / 10),
+        digit(col),
+        99,
+        digit(row / 100),
+        digit(row / 10),
+        digit(row),
+        letter,
+        13,
+    ]
+}
+
+fn bit_of(b: bool) -> u8
+    ensures { λ r. ⌜ r ≡ bit b ⌝ }
+{
+    if b { 1 } else { 0 }
+}
+
+// ESC, byte 92, the three flags, six bytes 48, CR.
+pub fn report_status(format: bool, insert: bool, lock: bool) -> [u8; 10]
+    ensures { λ r. ⌜ r ≡ statusReply format insert lock ⌝ }
+{
+    let flags = 48 + bit_of(format) + 2 * bit_of(insert) + 4 * bit_of(lock);
+    [27, 92, flags, 48, 48, 48, 48, 48, 48, 13]
+}
+
+// Whether a block transfer sends the fields of a mark: 1 to 4.
+fn is_sent(mark: u8) -> bool
+    ensures { λ r. ⌜ r ≡ isIn 4 mark ⌝ }
+{
+    fields::is_in(4, mark)
+}
+
+// How many bytes all fields of marks 1 to 4 send, with their separators.
+fn measure_fields(chars: &[u8], attrs: &[u8]) -> usize
+    requires { ⌜ (length (now chars) ≡ length (now attrs)) × (length (now attrs) ≤ 7680) ⌝ }
+    ensures { λ r. ⌜ r ≡ length (fieldsReply (now (chars .entry)) (now (attrs .entry))) ⌝ }
+{
+    let mut n = 1;
+    let mut kind = 0;
+    let mut some = false;
+    let mut i = 0;
+    while i < attrs.len() {
+        let mark = attrs[i] % 16;
+        kind = fields::kind_after(i, kind, mark);
+        if is_sent(mark) {
+            if some {
+                n += 1;
+            }
+            n += 1;
+            some = true;
+        } else if is_sent(kind) {
+            n += 1;
+        }
+        i += 1;
+    }
+    n
+}
+
+// All fields of marks 1 to 4, from byte `at` of the reply on; the place past the last byte.
+fn send_fields(chars: &[u8], attrs: &[u8], reply: &mut [u8], at: usize) -> usize
+    requires { ⌜ length (now chars) ≡ length (now attrs) ⌝ ∗ ⌜ at + length (fieldsReply (now chars) (now attrs)) ≤ length (now reply) ⌝ }
+    ensures { λ r. ⌜ r ≡ at + length (fieldsReply (now (chars .entry)) (now (attrs .entry))) ⌝ }
+    ensures { λ r. ⌜ now (reply .exit) ≡ written (now (reply .entry)) at (fieldsReply (now (chars .entry)) (now (attrs .entry))) ⌝ }
+{
+    let mut n = at;
+    let mut kind = 0;
+    let mut some = false;
+    let mut i = 0;
+    while i < attrs.len() {
+        let mark = attrs[i] % 16;
+        kind = fields::kind_after(i, kind, mark);
+        if is_sent(mark) {
+            if some {
+                reply[n] = 31;
+                n += 1;
+            }
+            reply[n] = chars[i];
+            n += 1;
+            some = true;
+        } else if is_sent(kind) {
+            reply[n] = chars[i];
+            n += 1;
+        }
+        i += 1;
+    }
+    reply[n] = 30;
+    n + 1
+}
+
+// The cell past the last non-blank of a row; the row's start where it is blank.
+fn row_through(chars: &[u8], row: usize) -> usize
+    requires { ⌜ (row < 96) × (row * 80 + 80 ≤ length (now chars)) ⌝ }
+    ensures { λ r. ⌜ r ≡ through (row * 80) (lastIn nonBlank (now (chars .entry)) (row * 80) (row * 80 + 80)) ⌝ }
+{
+    let from = row * 80;
+    let last = fields::last_text(chars, from, from + 80);
+    match last {
+        Found::At(k) => k + 1,
+        Found::Nothing => from,
+    }
+}
+
+// The row through its last non-blank, CR, from byte `at` of the reply on; the place past the last byte.
+fn send_row(chars: &[u8], row: usize, reply: &mut [u8], at: usize) -> usize
+    requires { ⌜ (row < 96) × (row * 80 + 80 ≤ length (now chars)) ⌝ ∗ ⌜ at + length (rowReply (now chars) row) ≤ length (now reply) ⌝ }
+    ensures { λ r. ⌜ r ≡ at + length (rowReply (now (chars .entry)) row) ⌝ }
+    ensures { λ r. ⌜ now (reply .exit) ≡ written (now (reply .entry)) at (rowReply (now (chars .entry)) row) ⌝ }
+{
+    let from = row * 80;
+    let to = row_through(chars, row);
+    cells::write_at(reply, at, &chars[from..to]);
+    let end = at + (to - from);
+    reply[end] = 13;
+    end + 1
+}
+
+// How many bytes a block transfer sends.
+pub fn measure_block(chars: &[u8], attrs: &[u8], format: bool, row: usize) -> usize
+    requires { ⌜ (row < 96) × (row * 80 + 80 ≤ length (now chars)) × (length (now chars) ≡ length (now attrs)) × (length (now attrs) ≤ 7680) ⌝ }
+    ensures { λ r. ⌜ r ≡ length (blockReply format (now (chars .entry)) (now (attrs .entry)) row) ⌝ }
+{
+    if format {
+        return measure_fields(chars, attrs);
+    }
+    row_through(chars, row) - row * 80 + 1
+}
+
+// A block transfer, from byte `at` of the reply on; the place past the last byte.
+pub fn send_block(
+    chars: &[u8],
+    attrs: &[u8],
+    format: bool,
+    row: usize,
+    reply: &mut [u8],
+    at: usize,
+) -> usize
+    requires { ⌜ (row < 96) × (row * 80 + 80 ≤ length (now chars)) × (length (now chars) ≡ length (now attrs)) ⌝ ∗ ⌜ at + length (blockReply format (now chars) (now attrs) row) ≤ length (now reply) ⌝ }
+    ensures { λ r. ⌜ r ≡ at + length (blockReply format (now (chars .entry)) (now (attrs .entry)) row) ⌝ }
+    ensures { λ r. ⌜ now (reply .exit) ≡ written (now (reply .entry)) at (blockReply format (now (chars .entry)) (now (attrs .entry)) row) ⌝ }
+{
+    if format {
+        return send_fields(chars, attrs, reply, at);
+    }
+    send_row(chars, row, reply, at)
+}

@@ -1,0 +1,199 @@
+-- With format on each edit keeps the attributes and changes characters in unprotected cells alone: which cells each may change. Assumes nothing.
+use Prim.Native.Nat.{ℕ, _+_, _≤_, _<_}
+use mathlib.Core.Path.{_≡_, refl, ap, sym, _∙_}
+use mathlib.Core.Logic.{_⊎_, inl, inr, ⊎-elim}
+use mathlib.Core.Bool.{Bool, true, false, cond, _&&_, and-false}
+use mathlib.Core.List.{List}
+use native.Mathlib.Omega.{arith}
+use lib.ListN.{length, getD, List·getD-eq-default}
+use lib.Seq.{getD-set-other}
+use lib.Dec.{leb, ltb}
+use borrow.Author.Tests.{lt-leb}
+use Rattle.cells.specs.declared.Found.{Found}
+use Rattle.cells.specs.declared.Found.the-variants.{At, Nothing}
+use Rattle.cells.specs.Memory.{filledWhere}
+use Rattle.cells.proofs.Search.{not-both}
+use Rattle.cells.proofs.Patch.{lt-or, length-filledWhere, filledWhere-cell}
+use Rattle.cells.proofs.Values.{length-filled, length-shiftedLeft}
+use Rattle.cells.proofs.Frame.{Agree, filled-out, shiftedRight-out, shiftedLeft-out}
+use Rattle.fields.specs.Fields.{markOf, isIn, kindAt, unprotected, fieldEnd, target, allowed}
+use Rattle.fields.proofs.Fields.{field-ends, end-inside, unprotected-in, unprotected-inside}
+use Rattle.fields.proofs.Starts.{target-open}
+use Rattle.screen.specs.Page.{Page, Whole, cell, marksOf}
+use Rattle.screen.specs.Edits.{lineFed, put, typedAt, typedIn, typed, displayCleared, lineCleared, charDeleted, rowInserted, rowDeleted, markSet, markTurned, enhanced}
+use Rattle.screen.proofs.Kept.{choose-by, length-put, marks-long}
+
+-- q has p's attributes, and outside the cells of P its characters
+pub record Only (P : ℕ → Type 0) (p q : Page) : Type 0 where
+  pub attrs-stay : q .attrs ≡ p .attrs
+  pub chars-stay : Agree P (q .chars) (p .chars)
+
+-- cell j is in the rest of the field of cell k: from k up to the field's end
+pub record Rest (ms : List ℕ) (k j : ℕ) : Type 0 where
+  pub from : k ≤ j
+  pub upto : j < fieldEnd ms k
+
+-- the rest of the cursor's field, where that is unprotected
+pub record CursorRest (p : Page) (j : ℕ) : Type 0 where
+  pub isOpen : unprotected (marksOf p) (cell p) ≡ true
+  pub rest : Rest (marksOf p) (cell p) j
+
+-- the rest of the field that takes text
+pub record TargetRest (p : Page) (j : ℕ) : Type 0 where
+  pub start : ℕ
+  pub found : target (marksOf p) (cell p) ≡ At start
+  pub rest : Rest (marksOf p) start j
+
+-- the unprotected cells from the cursor on
+pub record OpenOn (p : Page) (j : ℕ) : Type 0 where
+  pub from : cell p ≤ j
+  pub isOpen : unprotected (marksOf p) j ≡ true
+
+-- the unprotected cells
+abbrev pub Unprotected : Page → ℕ → Type 0
+Unprotected p j = unprotected (marksOf p) j ≡ true
+
+-- ---- nothing changes; and more cells may change
+pub only-none : {P : ℕ → Type 0} {p q : Page} → q .chars ≡ p .chars → q .attrs ≡ p .attrs → Only P p q
+only-none {p = p} e f = record { attrs-stay = f; chars-stay = record { len = ap length e; cell = λ k _. ap (λ (xs : List ℕ). getD xs k 0) e } }
+
+pub only-more : {P Q : ℕ → Type 0} {p q : Page} → ((j : ℕ) → P j → Q j) → Only P p q → Only Q p q
+only-more h r =
+    record { attrs-stay = r .attrs-stay; chars-stay = record { len = r .chars-stay .len; cell = λ k n. r .chars-stay .cell k (λ x. n (h k x)) } }
+
+-- no protected cell is among the unprotected
+pub protected-kept : {p q : Page} → Only (Unprotected p) p q → (j : ℕ) → unprotected (marksOf p) j ≡ false → getD (q .chars) j 0 ≡ getD (p .chars) j 0
+protected-kept r j f = r .chars-stay .cell j (λ t. not-both t f)
+
+-- a cell outside the rest of a field stands before it or behind it
+pub rest-out : (ms : List ℕ) (k j : ℕ) → (Rest ms k j → ⊥) → (j < k) ⊎ (fieldEnd ms k ≤ j)
+rest-out ms k j n =
+    elim (lt-or j k) [
+      | inl u ↦ inl u
+      | inr u ↦ elim (lt-or j (fieldEnd ms k)) [
+        | inl w ↦ absurd (n (record { from = u; upto = w }))
+        | inr w ↦ inr w
+      ]
+    ]
+
+put-out : (insert : Bool) (xs : List ℕ) (k e v j : ℕ) → k < e → e ≤ length xs → (j < k) ⊎ (e ≤ j) → getD (put insert xs k e v) j 0 ≡ getD xs j 0
+unfolding put
+put-out true xs k e v j l fits out = shiftedRight-out xs k e v fits j out
+put-out false xs k e v j l fits out = getD-set-other xs k j v 0 (⊎-elim (λ u. omega arith) (λ u. omega arith) out)
+
+-- ---- of a whole page
+module _ {rows : ℕ} {p : Page} (w : Whole rows p) where
+  -- an unprotected cell's field ends in the memory, and all the rest of it is unprotected
+  pub end-fits : (k : ℕ) → unprotected (marksOf p) k ≡ true → fieldEnd (marksOf p) k ≤ length (p .chars)
+  end-fits k t = omega (arith, w .chars-long, marks-long w, end-inside (marksOf p) rows k (marks-long w) (unprotected-inside (marksOf p) k t))
+
+  pub rest-unprotected : (k j : ℕ) → unprotected (marksOf p) k ≡ true → Rest (marksOf p) k j → unprotected (marksOf p) j ≡ true
+  rest-unprotected k j t r = unprotected-in (marksOf p) k j (r .from) (r .upto) (omega (arith, r .upto, end-fits k t, w .chars-long, marks-long w)) ∙ t
+
+  pub cursor-unprotected : (j : ℕ) → CursorRest p j → unprotected (marksOf p) j ≡ true
+  cursor-unprotected j r = rest-unprotected (cell p) j (r .isOpen) (r .rest)
+
+  pub target-unprotected : (j : ℕ) → TargetRest p j → unprotected (marksOf p) j ≡ true
+  target-unprotected j r = rest-unprotected (r .start) j (target-open (marksOf p) (cell p) (r .start) (r .found) .isOpen) (r .rest)
+
+  -- ---- text
+  typed-at-only : (insert : Bool) (v k : ℕ) → unprotected (marksOf p) k ≡ true → Only (Rest (marksOf p) k) p (typedAt insert v k p)
+  unfolding typedAt
+  typed-at-only insert v k t =
+      record {
+        attrs-stay = refl;
+        chars-stay = record {
+          len = length-put insert (p .chars) k (fieldEnd (marksOf p) k) v;
+          cell = λ j n. put-out insert (p .chars) k (fieldEnd (marksOf p) k) v j (field-ends (marksOf p) k .past) (end-fits k t) (rest-out (marksOf p) k j n);
+        };
+      }
+
+  typed-in-only : (insert : Bool) (v : ℕ) (f : Found) → target (marksOf p) (cell p) ≡ f → Only (TargetRest p) p (typedIn insert v f p)
+  unfolding typedIn
+  typed-in-only insert v (At k) e =
+      choose-by (Only (TargetRest p) p) (allowed (kindAt (marksOf p) k) v)
+      (λ _. only-more (λ j r. record { start = k; found = e; rest = r }) (typed-at-only insert v k (target-open (marksOf p) (cell p) k e .isOpen)))
+      (λ _. only-none refl refl)
+  typed-in-only insert v Nothing e = only-none refl refl
+
+  pub typed-only : (insert : Bool) (v : ℕ) → Only (TargetRest p) p (typed rows true insert v p)
+  unfolding typed
+  typed-only insert v = typed-in-only insert v (target (marksOf p) (cell p)) refl
+
+  -- ---- clear display
+  cleared-cell : (j : ℕ) → (OpenOn p j → ⊥) → getD (filledWhere (p .chars) (cell p) (unprotected (marksOf p)) 32) j 0 ≡ getD (p .chars) j 0
+  cleared-cell j n = elim (lt-or j (length (p .chars))) [
+    | inl l ↦ filledWhere-cell (p .chars) (cell p) (unprotected (marksOf p)) 32 j l ∙ ap (λ (b : Bool). cond b 32 (getD (p .chars) j 0)) untouched
+    | inr l ↦ List·getD-eq-default (filledWhere (p .chars) (cell p) (unprotected (marksOf p)) 32) 0 {n = j} (omega (arith, length-filledWhere (p .chars) (cell p) (unprotected (marksOf p)) 32)) ∙ sym (List·getD-eq-default (p .chars) 0 {n = j} l)
+  ]
+    where
+      untouched : (leb (cell p) j && unprotected (marksOf p) j) ≡ false
+      untouched = elim (lt-or j (cell p)) [
+        | inl l ↦ ap (λ (b : Bool). b && unprotected (marksOf p) j) (lt-leb (cell p) j l)
+        | inr l ↦ shut l (unprotected (marksOf p) j) refl
+      ]
+        where
+          shut : cell p ≤ j → (b : Bool) → unprotected (marksOf p) j ≡ b → (leb (cell p) j && b) ≡ false
+          shut l true t = absurd (n (record { from = l; isOpen = t }))
+          shut l false t = and-false (leb (cell p) j)
+
+  pub displayCleared-only : Only (OpenOn p) p (displayCleared true p)
+  unfolding displayCleared
+  displayCleared-only =
+      record { attrs-stay = refl; chars-stay = record { len = length-filledWhere (p .chars) (cell p) (unprotected (marksOf p)) 32; cell = cleared-cell } }
+
+  -- ---- clear line and delete character
+  pub lineCleared-only : Only (CursorRest p) p (lineCleared true p)
+  unfolding lineCleared
+  lineCleared-only =
+      let e = fieldEnd (marksOf p) (cell p) in
+      choose-by (Only (CursorRest p) p) (unprotected (marksOf p) (cell p))
+      (λ t. record {
+        attrs-stay = refl;
+        chars-stay = record {
+          len = length-filled (p .chars) (cell p) e 32;
+          cell = λ j n. filled-out (p .chars) (cell p) e 32 (end-fits (cell p) t) j (rest-out (marksOf p) (cell p) j (λ r. n (record { isOpen = t; rest = r })));
+        };
+      })
+      (λ _. only-none refl refl)
+
+  pub charDeleted-only : Only (CursorRest p) p (charDeleted true p)
+  unfolding charDeleted
+  charDeleted-only =
+      let e = fieldEnd (marksOf p) (cell p) in
+      choose-by (Only (CursorRest p) p) (unprotected (marksOf p) (cell p))
+      (λ t. record {
+        attrs-stay = refl;
+        chars-stay = record {
+          len = length-shiftedLeft (p .chars) (cell p) e 32;
+          cell = λ j n. shiftedLeft-out (p .chars) (cell p) e 32 (end-fits (cell p) t) j (rest-out (marksOf p) (cell p) j (λ r. n (record { isOpen = t; rest = r })));
+        };
+      })
+      (λ _. only-none refl refl)
+
+-- ---- line feed moves the cursor alone, insert and delete row do nothing
+pub lineFed-only : (rows : ℕ) (p : Page) {P : ℕ → Type 0} → Only P p (lineFed rows true p)
+unfolding lineFed
+lineFed-only rows p {P} = choose-by (Only P p) (ltb (p .cursor .row + 1) rows) (λ _. only-none refl refl) (λ _. only-none refl refl)
+
+pub rowInserted-none : (p : Page) → rowInserted true p ≡ p
+unfolding rowInserted
+rowInserted-none p = refl
+
+pub rowDeleted-none : (p : Page) → rowDeleted true p ≡ p
+unfolding rowDeleted
+rowDeleted-none p = refl
+
+-- ---- marks and enhancements stay
+pub markSet-none : (m : ℕ) (attrs : List ℕ) (k : ℕ) → markSet true m attrs k ≡ attrs
+unfolding markSet
+markSet-none m attrs k = refl
+
+pub markTurned-none : (m : ℕ) (attrs : List ℕ) (k : ℕ) → markTurned true m attrs k ≡ attrs
+unfolding markTurned
+markTurned-none m attrs k =
+    choose-by (λ (xs : List ℕ). xs ≡ attrs) (isIn 3 (markOf (getD attrs k 0))) (λ _. markSet-none m attrs k) (λ _. refl)
+
+pub enhanced-none : (e : ℕ) (attrs : List ℕ) (k : ℕ) → enhanced true e attrs k ≡ attrs
+unfolding enhanced
+enhanced-none e attrs k = refl

@@ -1,0 +1,3 @@
+-- The definitions of the page and its edits.
+pub mod Page
+pub mod Edits
