@@ -1,0 +1,7 @@
+-- The laws of host streams.
+pub mod Kept
+pub mod Streams
+pub mod Answers
+pub mod Steps
+pub mod Protected
+pub mod Once

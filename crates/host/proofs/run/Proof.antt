@@ -1,0 +1,68 @@
+-- `host::run` meets its contract. The loop's invariant: the world is sound, the bytes sent fit, and the bytes left, run from here, leave what all bytes leave from the start.
+-- The measure is what is left of the bytes. Assumes nothing.
+use Rattle.host.proofs.Streams.{ran-turn, ran-stop, ran-end}
+use Rattle.host.proofs.Kept.{stepped-by-sound, sound-by}
+use borrow.Author.Needs.{needs}
+use lib.ListN.{length, drop}
+use native.Mathlib.Omega.{arith}
+use mathlib.Core.Path.{_≡_, refl, sym, ap, _∙_}
+use Prim.Native.Nat.{ℕ, _+_, _-_, _≤_}
+use Rattle.terminal.specs.State.{world, Sound}
+use Rattle.host.specs.Streams.{replyTo, hosted, ran}
+use Rattle.host.proofs.run.Statement.{statement}
+use Rattle.host.proofs.run.Tie as tie
+
+abbrev Inv-loop : tie.InvT-loop
+Inv-loop rows chars₀ attrs₀ bytes reply₀ table u₀ at₀ i₀ chars attrs reply u at i =
+    (i ≤ length bytes) × (at ≤ length reply) × (length reply ≡ length reply₀) × Sound rows (world u chars attrs)
+    × (ran rows (drop i bytes) i at (world u chars attrs) reply ≡ ran rows bytes 0 0 (world u₀ chars₀ attrs₀) reply₀)
+
+abbrev μ-loop : tie.MeasureT-loop
+μ-loop rows chars₀ attrs₀ bytes reply₀ table u₀ at₀ i₀ chars attrs reply u at i = length bytes - i
+
+pub run-spec : {M : Type 1} → statement M
+run-spec =
+    tie.close
+    (tie.spec Inv-loop μ-loop
+    (λ c κs. search needs)
+    (λ c. (omega arith, omega arith, refl, c .before .before .before .before .before .pre, refl))
+    (λ c. omega arith)
+    (λ c κs. (c .before .before .before .loop .inv .3 .good .reading-in, c .before .before .before .before .actions .ensures))
+    (λ c. omega (arith, c .before .before .before .before .loop .inv .1))
+    (λ c κs. c .before .before .before .before .before .before .loop .inv .3)
+    (λ c. c .before .before .before .before .before .before .before .before .loop .inv .3 .chars-long ∙ sym (c .before .before .before .before .before .before .before .before .before .before .before .before .before .before .pre .chars-long))
+    (λ c. c .before .before .before .before .before .before .before .before .loop .inv .3 .attrs-long ∙ sym (c .before .before .before .before .before .before .before .before .before .before .before .before .before .before .pre .attrs-long))
+    (λ c. c .before .before .before .before .before .before .before .before .loop .inv .2)
+    (λ c.
+    let l = c .before .before .before .before .before .before .before .before .loop in
+    let a = c .before .before .before .before .before .before .before .before .before .before .before .before .before .before .args in
+    let w = world (l .u) (l .chars) (l .attrs) in
+    ran-stop (a .rows) (a .bytes .now) (l .i) (l .at) w (l .reply) (omega (arith, c .before .before .before .before .before .before .before .loop-test)) (c .before .before .before .before .action-for .ensures) (omega (arith, c .if1 .taken, c .before .measure .ensures, l .inv .1)) ∙ l .inv .4)
+    (λ c κs. (c .before .before .before .before .before .before .before .before .before .before .before .loop .inv .3, omega (arith, c .before .before .before .before .measure .ensures, c .before .before .before .if1 .left, c .before .before .before .before .before .before .before .before .before .before .before .loop .inv .1)))
+    (λ c κs. c .before .before .before .before .before .before .before .before .before .before .before .before .before .before .before .before .loop .inv .3)
+    (λ c. omega (arith, c .before .before .before .before .before .before .before .before .before .before .before .before .before .before .before .before .before .before .before .before .loop-test, c .before .before .before .before .before .before .before .before .before .before .before .before .before .before .before .before .before .before .before .before .before .before .before .before .before .before .before))
+    (λ c. omega (arith, c .before .before .before .before .before .before .before .before .before .before .before .before .before .before .before .before .before .before .before .before .loop-test))
+    (λ c.
+    let sent = c .before .before .before .before .before .before .before .before .before in
+    let measured = sent .before .before .before .before .before in
+    let chosen = measured .before .before .before in
+    let tested = chosen .before .before .before in
+    let l = tested .before .loop in
+    let a = tested .before .before .before .before .before .before .before .args in
+    let w = world (l .u) (l .chars) (l .attrs) in
+    let fits : l .at + length (replyTo (chosen .action-for .result) w) ≤ length (l .reply) = omega (arith, measured .measure .ensures, sent .before .before .before .before .if1 .left, l .inv .1) in (
+      omega (arith, tested .loop-test),
+      omega (arith, sent .send .ensures .0, sent .send .kept .1 .1 .1 .1 .1 .0, fits),
+      sent .send .kept .1 .1 .1 .1 .1 .0 ∙ l .inv .2,
+      sound-by (c .before .before .before .before .step .ensures) (stepped-by-sound (l .inv .3) _ _),
+      ran-turn (a .rows) (a .bytes .now) (l .i) (l .at) w (l .reply) (omega (arith, tested .loop-test)) (chosen .action-for .ensures) fits (sent .send .ensures .0) (c .before .before .before .before .step .ensures) (sent .send .ensures .1) ∙ l .inv .4,
+    ))
+    (λ c. c .before .loop .inv .3 .chars-long ∙ sym (c .before .before .before .before .before .before .before .pre .chars-long))
+    (λ c. c .before .loop .inv .3 .attrs-long ∙ sym (c .before .before .before .before .before .before .before .pre .attrs-long))
+    (λ c. c .before .loop .inv .2)
+    (λ c.
+    let l = c .before .loop in
+    let a = c .before .before .before .before .before .before .before .args in
+    let w = world (l .u) (l .chars) (l .attrs) in
+    let e : length (a .bytes .now) ≡ l .i = omega (arith, c .loop-test, l .inv .0) in
+    ap (λ (n : ℕ). hosted 0 n (l .at) w (l .reply)) e ∙ ran-end (a .rows) (a .bytes .now) (l .i) (l .at) w (l .reply) (sym e) ∙ l .inv .4))

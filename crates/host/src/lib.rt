@@ -1,0 +1,215 @@
+// The call for host bytes.
+ghost use mathlib.Core.Path.{_≡_};
+ghost use Prim.Native.Nat.{_+_, _≤_, _<_};
+ghost use lib.ListN.{length};
+ghost use Rattle.cells.specs.Memory.{written};
+ghost use Rattle.reading.specs.Reading.{Tabled};
+ghost use Rattle.terminal.specs.State.{world, Sound};
+ghost use Rattle.host.specs.Streams.{actionFor, readOn, steppedBy, pendingReply, replyTo, hostLeft, ran, fed};
+use terminal::Terminal;
+
+// The number, the bytes taken, the bytes written to the reply, and the state afterwards.
+pub struct HostAnswer {
+    pub number: u8,
+    pub taken: usize,
+    pub written: usize,
+    pub state: Terminal,
+}
+
+// The action of a byte, a sign that is not first settled.
+fn action_for(t: Terminal, table: &[u8; 896], byte: u8) -> u8
+    requires { ⌜ t .reading < 7 ⌝ ∗ ⌜ Tabled (now table) ⌝ }
+    ensures { λ r. ⌜ r ≡ actionFor t byte ⌝ }
+{
+    t.number.settle(reading::action(table, t.reading, byte))
+}
+
+// The reading state and the number after an action.
+fn read_on(mut t: Terminal, a: u8, b: u8) -> Terminal
+    requires { ⌜ t .number .value ≤ 999 ⌝ }
+    ensures { λ r. ⌜ r ≡ readOn a b t ⌝ }
+{
+    t.number = t.number.count(a, b);
+    t.reading = reading::next_reading(a);
+    t
+}
+
+// One byte, whose action is `a`.
+fn step(t: Terminal, rows: usize, chars: &mut [u8], attrs: &mut [u8], a: u8, byte: u8) -> Terminal
+    requires { ⌜ Sound rows (world t (now chars) (now attrs)) ⌝ }
+    ensures { λ r. ⌜ world r (now (chars .exit)) (now (attrs .exit)) ≡ steppedBy rows a byte (world t (now (chars .entry)) (now (attrs .entry))) ⌝ }
+{
+    let b = byte % 128;
+    read_on(t.act(rows, chars, attrs, a, b), a, b)
+}
+
+// How many bytes the pending transfer sends.
+fn measure_pending(t: Terminal, rows: usize, chars: &[u8], attrs: &[u8]) -> usize
+    requires { ⌜ Sound rows (world t (now chars) (now attrs)) ⌝ }
+    ensures { λ r. ⌜ r ≡ length (pendingReply (world t (now (chars .entry)) (now (attrs .entry)))) ⌝ }
+{
+    let pending = t.pending;
+    match pending {
+        1 => 12,
+        2 => 12,
+        3 => 10,
+        4 => replies::measure_block(chars, attrs, t.format, t.cursor.row),
+        _ => 0,
+    }
+}
+
+// How many bytes an action sends.
+fn measure(t: Terminal, rows: usize, chars: &[u8], attrs: &[u8], a: u8) -> usize
+    requires { ⌜ Sound rows (world t (now chars) (now attrs)) ⌝ }
+    ensures { λ r. ⌜ r ≡ length (replyTo a (world t (now (chars .entry)) (now (attrs .entry)))) ⌝ }
+{
+    if a == reading::ACK {
+        return 1;
+    }
+    if a == reading::TRIGGER {
+        return measure_pending(t, rows, chars, attrs);
+    }
+    0
+}
+
+// The pending transfer's reply, from byte `at` of the reply on; the place past the last byte.
+fn send_pending(
+    t: Terminal,
+    rows: usize,
+    chars: &[u8],
+    attrs: &[u8],
+    reply: &mut [u8],
+    at: usize,
+) -> usize
+    requires { ⌜ Sound rows (world t (now chars) (now attrs)) ⌝ ∗ ⌜ at + length (pendingReply (world t (now chars) (now attrs))) ≤ length (now reply) ⌝ }
+    ensures { λ r. ⌜ r ≡ at + length (pendingReply (world t (now (chars .entry)) (now (attrs .entry)))) ⌝ }
+    ensures { λ r. ⌜ now (reply .exit) ≡ written (now (reply .entry)) at (pendingReply (world t (now (chars .entry)) (now (attrs .entry)))) ⌝ }
+{
+    let pending = t.pending;
+    if pending == 1 {
+        let message = replies::report_cursor(t.cursor.col, t.cursor.row, 82);
+        cells::write_at(reply, at, &message);
+        return at + 12;
+    }
+    if pending == 2 {
+        let message = replies::report_cursor(t.cursor.col, t.cursor.row - t.cursor.top, 89);
+        cells::write_at(reply, at, &message);
+        return at + 12;
+    }
+    if pending == 3 {
+        let message = replies::report_status(t.format, t.insert, t.lock);
+        cells::write_at(reply, at, &message);
+        return at + 10;
+    }
+    if pending == 4 {
+        return replies::send_block(chars, attrs, t.format, t.cursor.row, reply, at);
+    }
+    at
+}
+
+// What an action sends, from byte `at` of the reply on; the place past the last byte.
+fn send(
+    t: Terminal,
+    rows: usize,
+    chars: &[u8],
+    attrs: &[u8],
+    a: u8,
+    reply: &mut [u8],
+    at: usize,
+) -> usize
+    requires { ⌜ Sound rows (world t (now chars) (now attrs)) ⌝ ∗ ⌜ at + length (replyTo a (world t (now chars) (now attrs))) ≤ length (now reply) ⌝ }
+    ensures { λ r. ⌜ r ≡ at + length (replyTo a (world t (now (chars .entry)) (now (attrs .entry)))) ⌝ }
+    ensures { λ r. ⌜ now (reply .exit) ≡ written (now (reply .entry)) at (replyTo a (world t (now (chars .entry)) (now (attrs .entry)))) ⌝ }
+{
+    if a == reading::ACK {
+        cells::write_at(reply, at, &[6u8; 1]);
+        return at + 1;
+    }
+    if a == reading::TRIGGER {
+        return send_pending(t, rows, chars, attrs, reply, at);
+    }
+    at
+}
+
+// The bytes, up to the one whose reply does not fit.
+fn run(
+    t: Terminal,
+    rows: usize,
+    chars: &mut [u8],
+    attrs: &mut [u8],
+    bytes: &[u8],
+    reply: &mut [u8],
+) -> HostAnswer
+    requires { ⌜ Sound rows (world t (now chars) (now attrs)) ⌝ }
+    ensures { λ r. ⌜ hostLeft r (now (chars .exit)) (now (attrs .exit)) (now (reply .exit)) ≡ ran rows (now (bytes .entry)) 0 0 (world t (now (chars .entry)) (now (attrs .entry))) (now (reply .entry)) ⌝ }
+{
+    let table = reading::actions();
+    let mut u = t;
+    let mut at = 0;
+    let mut i = 0;
+    while i < bytes.len() {
+        let b = bytes[i];
+        let a = action_for(u, &table, b);
+        if reply.len() - at < measure(u, rows, chars, attrs, a) {
+            return HostAnswer {
+                number: 7,
+                taken: i,
+                written: at,
+                state: u,
+            };
+        }
+        at = send(u, rows, chars, attrs, a, reply, at);
+        u = step(u, rows, chars, attrs, a, b);
+        i += 1;
+    }
+    HostAnswer {
+        number: 0,
+        taken: bytes.len(),
+        written: at,
+        state: u,
+    }
+}
+
+// Host bytes, in a memory of `rows` rows.
+pub fn host_on(
+    t: Terminal,
+    rows: usize,
+    chars: &mut [u8],
+    attrs: &mut [u8],
+    bytes: &[u8],
+    reply: &mut [u8],
+) -> HostAnswer
+    requires { ⌜ (24 ≤ rows) × (rows ≤ 96) ⌝ }
+    ensures { λ r. ⌜ hostLeft r (now (chars .exit)) (now (attrs .exit)) (now (reply .exit)) ≡ fed rows (world t (now (chars .entry)) (now (attrs .entry))) (now (bytes .entry)) (now (reply .entry)) ⌝ }
+{
+    if !terminal::is_sized(rows, chars, attrs) {
+        return HostAnswer {
+            number: 1,
+            taken: 0,
+            written: 0,
+            state: t,
+        };
+    }
+    if !t.is_good(rows) {
+        return HostAnswer {
+            number: 2,
+            taken: 0,
+            written: 0,
+            state: t,
+        };
+    }
+    run(t, rows, chars, attrs, bytes, reply)
+}
+
+// Host bytes. Takes any state, any buffers and any bytes; 1 and 2 change nothing, 7 stops before the byte whose reply does not fit.
+pub fn host(
+    t: Terminal,
+    chars: &mut [u8],
+    attrs: &mut [u8],
+    bytes: &[u8],
+    reply: &mut [u8],
+) -> HostAnswer
+    ensures { λ r. ⌜ hostLeft r (now (chars .exit)) (now (attrs .exit)) (now (reply .exit)) ≡ fed 48 (world t (now (chars .entry)) (now (attrs .entry))) (now (bytes .entry)) (now (reply .entry)) ⌝ }
+{
+    host_on(t, 48, chars, attrs, bytes, reply)
+}
