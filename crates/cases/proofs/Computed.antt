@@ -1,0 +1,23 @@
+-- All of document 01's cases hold: the checker computes them. Assumes nothing.
+use mathlib.Core.Path.{_≡_, refl}
+use mathlib.Core.List.{[]}
+use Rattle.cells.specs.Search.{firstOf, lastOf, countOf, nthOf, firstIn, lastIn, countIn}
+use Rattle.cells.specs.Memory.{patchFrom, patch, filled, shiftedRight, shiftedLeft, filledWhereFrom, filledWhere, movedUp, movedDown, written, posted}
+use Rattle.cursor.specs.Cursor.{gone, atCell, up, down, left, right, inColumn, homeAt, risen, fallen, isPlaced}
+use Rattle.cursor.specs.Addressing.{aimed, heldTo, toColumn, toRow, toWindowRow}
+use Rattle.cursor.specs.Stops.{tabbed, backTabbed}
+use Rattle.fields.specs.Fields.{marks, isIn, fieldEnd, kindsFrom, kinds, kindAt, unprotected, firstStart, nextStart, prevStart, nthField, fieldNumber, holds, target, letter, digit, allowed, rowUnderText}
+use Rattle.reading.specs.Reading.{actionOf, unbegun, settled, counted, nextReading, soundNumber}
+use Rattle.screen.specs.Edits.{scrolled, lineFed, homed, homedDown, goneFound, tabbedIn, backTabbedIn, put, onward, typedFree, cellAfter, typedAt, typedIn, typed, displayCleared, lineCleared, charDeleted, rowInserted, rowDeleted, markSet, markTurned, enhanced}
+use Rattle.replies.specs.Replies.{digits, cursorReply, statusReply, fieldsFrom, fieldsReply, rowReply, blockReply}
+use Rattle.terminal.specs.State.{freshWorld, isGood, isSized, barred}
+use Rattle.terminal.specs.Acts.{switched, tabbedBy, backTabbedBy, steered, stamps, stamped, acted}
+use Rattle.key.specs.Keys.{keyAction, keyRefusal, keyDone, keyed}
+use Rattle.post.specs.Posts.{fits, allFit, postedAt, postedTo}
+use Rattle.host.specs.Streams.{actionFor, readOn, steppedBy, stepped, pendingReply, replyTo, answerTo, ran, fed}
+use Rattle.cases.specs.Cases.{same, sameStops, sameState, sameMemory, sameWorld, standsAt, start, room, after, answers, cases, failing}
+
+-- no case fails
+pub proved : failing 0 cases ≡ []
+unfolding firstOf lastOf countOf nthOf firstIn lastIn countIn patchFrom patch filled shiftedRight shiftedLeft filledWhereFrom filledWhere movedUp movedDown written posted gone atCell up down left right inColumn homeAt risen fallen isPlaced aimed heldTo toColumn toRow toWindowRow tabbed backTabbed marks isIn fieldEnd kindsFrom kinds kindAt unprotected firstStart nextStart prevStart nthField fieldNumber holds target letter digit allowed rowUnderText actionOf unbegun settled counted nextReading soundNumber scrolled lineFed homed homedDown goneFound tabbedIn backTabbedIn put onward typedFree cellAfter typedAt typedIn typed displayCleared lineCleared charDeleted rowInserted rowDeleted markSet markTurned enhanced digits cursorReply statusReply fieldsFrom fieldsReply rowReply blockReply freshWorld isGood isSized barred switched tabbedBy backTabbedBy steered stamps stamped acted keyAction keyRefusal keyDone keyed fits allFit postedAt postedTo actionFor readOn steppedBy stepped pendingReply replyTo answerTo ran fed same sameStops sameState sameMemory sameWorld standsAt start room after answers cases failing
+proved = refl

@@ -1,0 +1,2 @@
+-- The cases, computed.
+pub mod Computed
