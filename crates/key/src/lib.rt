@@ -1,8 +1,7 @@
 // The call for a key.
 ghost use mathlib.Core.Path.{_≡_};
-ghost use Prim.Native.Nat.{_*_, _≤_, _<_};
+ghost use Prim.Native.Nat.{_≤_, _<_};
 ghost use lib.ListN.{length};
-ghost use Rattle.cursor.specs.Cursor.{cellOf, InPlace};
 ghost use Rattle.fields.specs.Fields.{marks, target, within};
 ghost use Rattle.terminal.specs.State.{world, Sound};
 ghost use Rattle.key.specs.Keys.{keyAction, textRefusal, keyRefusal, keyLeft, keyDone, keyed};
