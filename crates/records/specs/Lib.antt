@@ -1,0 +1,2 @@
+-- The definitions of session records.
+pub mod Sessions
