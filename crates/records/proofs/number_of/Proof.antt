@@ -9,9 +9,9 @@ number-of-spec =
     tie.close
     (tie.spec
     (λ c. search needs)
-    (λ c. omega (arith, c .shared-slice-known .given 2))
+    (λ c. omega (arith, c .shared-slice-known .given 2, c .shared-slice-known .given 3))
     (λ c. search needs)
-    (λ c. omega (arith, c .before .shared-slice-known .given 2, c .shared-slice-known2 .given 3))
-    (λ c. omega (arith, c .before .shared-slice-known .given 2, c .shared-slice-known2 .given 3))
-    (λ c. omega (arith, c .before .shared-slice-known .given 2, c .shared-slice-known2 .given 3))
+    (λ c. omega (arith, c .shared-slice-known2 .given 2, c .shared-slice-known2 .given 3))
+    (λ c. omega (arith, c .shared-slice-known2 .given 2, c .shared-slice-known2 .given 3))
+    (λ c. omega (arith, c .shared-slice-known2 .given 2, c .shared-slice-known2 .given 3))
     (λ c. search needs))

@@ -1,0 +1,25 @@
+-- `console::raw::print_memory` is safe and ends: the loop passes the 48 rows. Assumes nothing.
+use Prim.Native.Nat.{_≤_, _-_}
+use borrow.Author.Needs.{needs}
+use Rattle.console.proofs.raw.print_memory.Statement.{statement}
+use Rattle.console.proofs.raw.print_memory.Tie as tie
+
+abbrev Inv-loop : tie.InvT-loop
+Inv-loop chars attrs row₀ t4 t5 row = row ≤ 48
+
+abbrev μ-loop : tie.MeasureT-loop
+μ-loop chars attrs row₀ t4 t5 row = 48 - row
+
+pub print-memory-spec : {M : Type 1} → statement M
+print-memory-spec =
+    tie.close
+    (tie.spec Inv-loop μ-loop
+    (λ c. search needs)
+    (λ c. search needs)
+    (λ c κs. search needs)
+    (λ c. search needs)
+    (λ c κs. search needs)
+    (λ c. search needs)
+    (λ c. search needs)
+    (λ c. search needs)
+    (λ c. search needs))

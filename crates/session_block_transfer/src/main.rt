@@ -1,0 +1,4 @@
+// The program `session`, run on examples/block-transfer.
+fn main() {
+    console::session();
+}

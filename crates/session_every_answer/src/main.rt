@@ -1,0 +1,4 @@
+// The program `session`, run on examples/every-answer.
+fn main() {
+    console::session();
+}

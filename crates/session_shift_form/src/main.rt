@@ -1,0 +1,4 @@
+// The program `session`, run on examples/shift-form.
+fn main() {
+    console::session();
+}

@@ -1,0 +1,4 @@
+// The program `session`, run on examples/tags-among-keys.
+fn main() {
+    console::session();
+}

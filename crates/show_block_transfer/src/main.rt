@@ -1,0 +1,4 @@
+// The program `show`, run on examples/block-transfer.
+fn main() {
+    console::show();
+}

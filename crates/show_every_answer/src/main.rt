@@ -1,0 +1,4 @@
+// The program `show`, run on examples/every-answer.
+fn main() {
+    console::show();
+}

@@ -1,0 +1,119 @@
+#!/usr/bin/env python3
+"""Prints what the programs `session` and `show` print, computed by the reference model.
+
+    expected.py session       < FILE.session
+    expected.py show          < FILE.session
+    expected.py show raw      < FILE.session
+    expected.py show host     < FILE      (the whole input is one host stream)
+    expected.py show host raw < FILE
+"""
+
+import sys
+
+sys.dont_write_bytecode = True
+
+from model import COLUMNS, RECORD, ROWS, SHORT_RECORD, Terminal, run, run_host
+
+PENDING = ["none", "absolute cursor", "window cursor", "status", "block"]
+MARGIN = " " * 7
+
+
+def session_lines(terminal, results):
+    for number, (answer, reply) in enumerate(results):
+        yield "%d %d %d" % (number, answer, len(reply))
+    yield "end %d %d %d" % (terminal.row, terminal.col, terminal.top)
+
+
+def raw_lines(terminal, replies):
+    t = terminal
+    for number, reply in enumerate(replies):
+        yield ("reply %d %s" % (number, bytes(reply).hex())).rstrip()
+    yield "state row %d col %d top %d format %d insert %d lock %d pending %d reading %d sign %d digit %d value %d tabs %s" % (
+        t.row, t.col, t.top, t.format, t.insert, t.lock, t.pending, t.reading, t.sign, t.digit, t.value,
+        "".join("1" if tab else "0" for tab in t.tabs))
+    for row in range(ROWS):
+        cells = slice(row * COLUMNS, (row + 1) * COLUMNS)
+        yield "chars %d %s" % (row, bytes(t.chars[cells]).hex())
+        yield "attrs %d %s" % (row, bytes(t.attrs[cells]).hex())
+
+
+def face(terminal, cell):
+    character = terminal.chars[cell]
+    if character == 32 and terminal.unprotected_at(cell):
+        return "_"
+    return chr(character) if 32 <= character <= 126 else "?"
+
+
+def kind_letter(terminal, cell):
+    field = terminal.field_at(cell)
+    return " aldt"[field[2]] if field else " "
+
+
+def left_out(terminal, row):
+    cells = slice(row * COLUMNS, (row + 1) * COLUMNS)
+    blank = terminal.chars[cells] == [32] * COLUMNS and terminal.attrs[cells] == [0] * COLUMNS
+    return blank and row != terminal.row
+
+
+def blank_rows_line(count):
+    return MARGIN + ("(1 blank row)" if count == 1 else "(%d blank rows)" % count)
+
+
+def picture_lines(terminal):
+    t = terminal
+    on = lambda flag: "on" if flag else "off"
+    yield "cursor: row %d, column %d" % (t.row, t.col)
+    yield "window: rows %d to %d" % (t.top, t.top + 23)
+    yield "format mode %s, insert mode %s, host lock %s" % (on(t.format), on(t.insert), on(t.lock))
+    yield "pending transfer: " + PENDING[t.pending]
+    yield "tab stops: " + (" ".join(str(col) for col in range(COLUMNS) if t.tabs[col]) or "none")
+    yield "fields: a any character, l letters, d digits, t transmit-only; _ is a blank of an unprotected field, ? no printable character"
+    yield ""
+    yield (MARGIN + "".join("%d         " % tens for tens in range(COLUMNS // 10))).rstrip()
+    yield MARGIN + "0123456789" * (COLUMNS // 10)
+    count = 0
+    for row in range(ROWS):
+        if left_out(t, row):
+            count += 1
+            continue
+        if count > 0:
+            yield blank_rows_line(count)
+            count = 0
+        cells = range(row * COLUMNS, (row + 1) * COLUMNS)
+        shown = "> " if t.top <= row <= t.top + 23 else "  "
+        yield shown + "%2d  |" % row + "".join(face(t, cell) for cell in cells) + "|"
+        kinds = "".join(kind_letter(t, cell) for cell in cells)
+        if kinds.strip():
+            yield MARGIN + kinds
+        if row == t.row:
+            yield MARGIN + "".join("^" if col == t.col else " " for col in range(COLUMNS))
+    if count > 0:
+        yield blank_rows_line(count)
+
+
+def short_part_lines(results, size):
+    if results and results[-1][0] == SHORT_RECORD:
+        yield "12: the input ends inside record %d, after %d of %d bytes" % (len(results) - 1, size % RECORD, RECORD)
+
+
+def lines(words, data):
+    if words in (["show", "host"], ["show", "host", "raw"]):
+        terminal = Terminal()
+        answer, reply = run_host(terminal, data)
+        return list(raw_lines(terminal, [reply]) if words[-1] == "raw" else picture_lines(terminal))
+    terminal, results = run(data)
+    if words == ["session"]:
+        return list(session_lines(terminal, results))
+    if words == ["show", "raw"]:
+        return list(raw_lines(terminal, [reply for answer, reply in results if answer != SHORT_RECORD]))
+    if words == ["show"]:
+        return list(short_part_lines(results, len(data))) + list(picture_lines(terminal))
+    return None
+
+
+if __name__ == "__main__":
+    found = lines(sys.argv[1:], sys.stdin.buffer.read())
+    if found is None:
+        sys.exit(__doc__)
+    for line in found:
+        print(line)
