@@ -5,3 +5,4 @@ pub mod Answers
 pub mod Steps
 pub mod Protected
 pub mod Once
+pub mod Runs

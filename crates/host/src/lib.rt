@@ -1,11 +1,16 @@
 // The call for host bytes.
 ghost use mathlib.Core.Path.{_≡_};
-ghost use Prim.Native.Nat.{_+_, _≤_, _<_};
-ghost use lib.ListN.{length};
+ghost use Prim.Native.Nat.{_+_, _≤_, _<_, min};
+ghost use mathlib.Core.Bool.{true};
+ghost use lib.ListN.{length, getD};
 ghost use Rattle.cells.specs.Memory.{written};
+ghost use Rattle.cursor.specs.Cursor.{InPlace};
 ghost use Rattle.reading.specs.Reading.{Tabled};
 ghost use Rattle.terminal.specs.State.{world, Sound};
 ghost use Rattle.host.specs.Streams.{actionFor, readOn, steppedBy, pendingReply, replyTo, hostLeft, ran, fed};
+ghost use Rattle.host.specs.Texts.{isText, typesFreely, Copied, inSequence, addressed};
+use cursor::Cursor;
+use reading::Number;
 use terminal::Terminal;
 
 // The number, the bytes taken, the bytes written to the reply, and the state afterwards.
@@ -131,6 +136,84 @@ fn send(
     at
 }
 
+// Whether a byte is text.
+fn is_text(byte: u8) -> bool
+    ensures { λ r. ⌜ r ≡ isText byte ⌝ }
+{
+    fields::is_within(32, 126, byte % 128)
+}
+
+// Whether an action is of a sequence, or rests: it changes the cursor, the reading state and the number alone, and sends nothing.
+fn is_in_sequence(a: u8) -> bool
+    ensures { λ r. ⌜ r ≡ inSequence a ⌝ }
+{
+    if a <= reading::ESC {
+        return true;
+    }
+    fields::is_within(reading::TO_GROUP, reading::STAY, a)
+}
+
+// The cursor after such an action.
+fn address(c: Cursor, rows: usize, a: u8, n: Number) -> Cursor
+    requires { ⌜ (rows ≤ 96) × (n .value ≤ 999) ⌝ ∗ ⌜ InPlace rows c ⌝ }
+    ensures { λ r. ⌜ r ≡ addressed rows a n c ⌝ }
+{
+    if fields::is_within(reading::COLUMN_ON, reading::COLUMN_END, a) {
+        return c.to_column(n.sign, n.value);
+    }
+    if fields::is_within(reading::ROW_ON, reading::ROW_END, a) {
+        return c.to_row(rows, n.sign, n.value);
+    }
+    if fields::is_within(reading::WINDOW_ON, reading::WINDOW_END, a) {
+        return c.to_window_row(rows, n.sign, n.value);
+    }
+    c
+}
+
+// Whether a byte is text that goes to the cursor's cell, and the cursor right.
+fn types_freely(t: Terminal, rows: usize, byte: u8) -> bool
+    requires { ⌜ (rows ≤ 96) × (t .cursor .row < rows) × (t .cursor .col < 80) ⌝ }
+    ensures { λ r. ⌜ r ≡ typesFreely rows t byte ⌝ }
+{
+    if !is_text(byte) {
+        return false;
+    }
+    if t.reading != 0 {
+        return false;
+    }
+    if t.format {
+        return false;
+    }
+    if t.insert {
+        return false;
+    }
+    t.cursor.row * 80 + t.cursor.col + 1 < rows * 80
+}
+
+fn least(a: usize, b: usize) -> usize
+    ensures { λ r. ⌜ r ≡ min a b ⌝ }
+{
+    if a <= b { a } else { b }
+}
+
+// The run of text that begins at byte `from`, to the cells from `cell` on, up to the last but one; how many bytes.
+fn copy_text(chars: &mut [u8], bytes: &[u8], from: usize, cell: usize) -> usize
+    requires { ⌜ (from < length (now bytes)) × (cell + 1 < length (now chars)) × (isText (getD (now bytes) from 0) ≡ true) ⌝ }
+    ensures { λ r. ⌜ Copied (now (bytes .entry)) from (now (chars .entry)) cell r (now (chars .exit)) ⌝ }
+{
+    let most = least(bytes.len() - from, chars.len() - 1 - cell);
+    let mut n = 0;
+    while n < most {
+        let b = bytes[from + n];
+        if !is_text(b) {
+            return n;
+        }
+        chars[cell + n] = b % 128;
+        n += 1;
+    }
+    n
+}
+
 // The bytes, up to the one whose reply does not fit.
 fn run(
     t: Terminal,
@@ -149,7 +232,21 @@ fn run(
     let mut i = 0;
     while i < bytes.len() {
         let b = bytes[i];
+        if types_freely(u, rows, b) {
+            let cell = u.cursor.row * 80 + u.cursor.col;
+            let n = copy_text(chars, bytes, i, cell);
+            u.cursor = u.cursor.go_to(cell + n);
+            i += n;
+            continue;
+        }
         let a = action_for(u, &table, b);
+        if is_in_sequence(a) {
+            u.cursor = address(u.cursor, rows, a, u.number);
+            u.number = u.number.count(a, b % 128);
+            u.reading = reading::next_reading(a);
+            i += 1;
+            continue;
+        }
         if reply.len() - at < measure(u, rows, chars, attrs, a) {
             return HostAnswer {
                 number: 7,
