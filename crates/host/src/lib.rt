@@ -2,13 +2,14 @@
 ghost use mathlib.Core.Path.{_≡_};
 ghost use Prim.Native.Nat.{_+_, _≤_, _<_, min};
 ghost use mathlib.Core.Bool.{true};
-ghost use lib.ListN.{length, getD};
+ghost use lib.ListN.{length, getD, drop};
 ghost use Rattle.cells.specs.Memory.{written};
 ghost use Rattle.cursor.specs.Cursor.{InPlace};
-ghost use Rattle.reading.specs.Reading.{Tabled};
+ghost use Rattle.reading.specs.Reading.{Tabled, soundNumber};
 ghost use Rattle.terminal.specs.State.{world, Sound};
 ghost use Rattle.host.specs.Streams.{actionFor, readOn, steppedBy, pendingReply, replyTo, hostLeft, ran, fed};
 ghost use Rattle.host.specs.Texts.{isText, typesFreely, Copied, inSequence, addressed};
+ghost use Rattle.host.specs.Sequences.{followed};
 use cursor::Cursor;
 use reading::Number;
 use terminal::Terminal;
@@ -19,6 +20,14 @@ pub struct HostAnswer {
     pub taken: usize,
     pub written: usize,
     pub state: Terminal,
+}
+
+// Where the reading of sequences stands: the cursor, the number, the reading state, and the place of the next byte.
+struct Reader {
+    cursor: Cursor,
+    number: Number,
+    reading: u8,
+    at: usize,
 }
 
 // The action of a byte, a sign that is not first settled.
@@ -170,6 +179,47 @@ fn address(c: Cursor, rows: usize, a: u8, n: Number) -> Cursor
     c
 }
 
+// The bytes of sequences from byte `from` on, up to the first whose action is of none.
+fn follow(
+    c: Cursor,
+    n: Number,
+    s: u8,
+    rows: usize,
+    table: &[u8; 896],
+    bytes: &[u8],
+    from: usize,
+) -> Reader
+    requires { ⌜ (rows ≤ 96) × (s < 7) × (soundNumber s n ≡ true) × (from ≤ length (now bytes)) ⌝ ∗ ⌜ InPlace rows c ⌝ ∗ ⌜ Tabled (now table) ⌝ }
+    ensures { λ r. ⌜ r ≡ followed rows (drop from (now (bytes .entry))) c n s from ⌝ }
+{
+    let mut cursor = c;
+    let mut number = n;
+    let mut state = s;
+    let mut i = from;
+    while i < bytes.len() {
+        let byte = bytes[i];
+        let a = number.settle(reading::action(table, state, byte));
+        if !is_in_sequence(a) {
+            return Reader {
+                cursor: cursor,
+                number: number,
+                reading: state,
+                at: i,
+            };
+        }
+        cursor = address(cursor, rows, a, number);
+        number = number.count(a, byte % 128);
+        state = reading::next_reading(a);
+        i += 1;
+    }
+    Reader {
+        cursor: cursor,
+        number: number,
+        reading: state,
+        at: i,
+    }
+}
+
 // Whether a byte is text that goes to the cursor's cell, and the cursor right.
 fn types_freely(t: Terminal, rows: usize, byte: u8) -> bool
     requires { ⌜ (rows ≤ 96) × (t .cursor .row < rows) × (t .cursor .col < 80) ⌝ }
@@ -239,14 +289,17 @@ fn run(
             i += n;
             continue;
         }
-        let a = action_for(u, &table, b);
-        if is_in_sequence(a) {
-            u.cursor = address(u.cursor, rows, a, u.number);
-            u.number = u.number.count(a, b % 128);
-            u.reading = reading::next_reading(a);
-            i += 1;
+        let r = follow(u.cursor, u.number, u.reading, rows, &table, bytes, i);
+        if i < r.at {
+            let cursor = r.cursor;
+            let number = r.number;
+            u.cursor = cursor;
+            u.number = number;
+            u.reading = r.reading;
+            i = r.at;
             continue;
         }
+        let a = action_for(u, &table, b);
         if reply.len() - at < measure(u, rows, chars, attrs, a) {
             return HostAnswer {
                 number: 7,

@@ -1,10 +1,10 @@
 -- `host::run` meets its contract. The loop's invariant: the world is sound, the bytes sent fit, and the bytes left, run from here, leave what all bytes leave from the start.
--- A run of text, a byte of a sequence, and any other byte each keep it. The measure is what is left of the bytes. Assumes nothing.
+-- A run of text, the bytes of sequences, and any other byte each keep it. The measure is what is left of the bytes. Assumes nothing.
 use Rattle.host.proofs.Streams.{ran-turn, ran-stop, ran-end}
 use Rattle.host.proofs.Kept.{stepped-by-sound, sound-by}
-use Rattle.host.proofs.Runs.{free-in, text-turn, sequence-turn}
+use Rattle.host.proofs.Runs.{free-in, text-turn}
+use Rattle.host.proofs.Sequences.{follow-ran}
 use Rattle.cursor.proofs.Place.{row-in}
-use Rattle.reading.proofs.Numbers.{sound-value}
 use borrow.Author.Needs.{needs}
 use lib.ListN.{length, drop}
 use native.Mathlib.Omega.{arith}
@@ -33,39 +33,74 @@ run-spec =
     (λ c κs. let s = c .before .before .loop .inv .3 in (s .few, row-in (s .good .place), s .good .place .col-in))
     (λ c. let s = c .before .before .before .before .before .loop .inv .3 in let r = row-in (s .good .place) in omega (arith, s .few))
     (λ c. let s = c .before .before .before .before .before .before .loop .inv .3 in let r = row-in (s .good .place) in omega (arith, s .few, s .good .place .col-in))
-    (λ c κs. let l = c .before .before .before .before .before .before .before .loop in let f = free-in _ (l .u) _ (sym (c .before .before .before .before .types-freely .ensures) ∙ c .before .before .before .if1 .taken) in (omega (arith, c .before .before .before .before .before .before .loop-test), rw (l .inv .3 .chars-long) (f .1 .room), f .0))
-    (λ c. let l = c .before .before .before .before .before .before .before .before .before .before .loop in omega (arith, c .before .before .copy-text .ensures .cells-upto, l .inv .3 .chars-long, l .inv .3 .few))
+    (λ c κs.
+    let l = c .before .before .before .before .before .before .before .loop in
+    let f = free-in _ (l .u) _ (sym (c .before .before .before .before .types-freely .ensures) ∙ c .before .before .before .if1 .taken) in
+    (omega (arith, c .before .before .before .before .before .before .loop-test), rw (l .inv .3 .chars-long) (f .1 .room), f .0))
+    (λ c.
+    let l = c .before .before .before .before .before .before .before .before .before .before .loop in
+    omega (arith, c .before .before .copy-text .ensures .cells-upto, l .inv .3 .chars-long, l .inv .3 .few))
     (λ c κs. search needs)
     (λ c. omega (arith, c .before .before .before .copy-text .ensures .bytes-upto, c .before .before .before .before .before .before .before .before .before .before .before .before .before .before .before .before .before))
     (λ c. omega (arith, c .before .before .before .copy-text .ensures .bytes-upto, c .before .before .before .copy-text .ensures .some))
-    (λ c. let l = c .before .before .before .before .before .before .before .before .before .before .before .loop in let a = c .before .before .before .before .before .before .before .before .before .before .before .before .before .before .before .before .before .args in let w = world (l .u) (l .chars) (l .attrs) in let f = free-in (a .rows) (l .u) _ (sym (c .before .before .before .before .before .before .before .before .types-freely .ensures) ∙ c .before .before .before .before .before .before .before .if1 .taken) in let d = c .before .before .before .copy-text .ensures in let t = text-turn (a .rows) (a .bytes .now) (l .i) (l .at) w (l .reply) (l .inv .3) (f .1) (l .inv .1) d (c .go-to .ensures) in (d .bytes-upto, l .inv .1, l .inv .2, t .0, t .1 ∙ l .inv .4))
-    (λ c κs. (c .before .before .before .before .before .loop .inv .3 .good .reading-in, c .before .before .before .before .before .before .actions .ensures))
-    (λ c κs. search needs)
-    (λ c κs. let s = c .before .before .before .before .before .before .before .before .loop .inv .3 in ((s .few, sound-value _ _ (s .good .number-in)), s .good .place))
-    (λ c κs. sound-value _ _ (c .before .before .before .before .before .before .before .before .before .loop .inv .3 .good .number-in))
-    (λ c κs. search needs)
-    (λ c. omega (arith, c .before .before .before .before .before .before .before .before .before .before .loop-test, c .before .before .before .before .before .before .before .before .before .before .before .before .before .before .before .before .before))
-    (λ c. omega (arith, c .before .before .before .before .before .before .before .before .before .before .loop-test))
     (λ c.
     let l = c .before .before .before .before .before .before .before .before .before .before .before .loop in
     let a = c .before .before .before .before .before .before .before .before .before .before .before .before .before .before .before .before .before .args in
     let w = world (l .u) (l .chars) (l .attrs) in
-    let t =
-    sequence-turn (a .rows) (a .bytes .now) (l .i) (l .at) w (l .reply) (l .inv .3) (l .inv .1) (omega (arith, c .before .before .before .before .before .before .before .before .before .before .loop-test)) (c .before .before .before .before .before .action-for .ensures)
-    (sym (c .before .before .before .before .is-in-sequence .ensures) ∙ c .before .before .before .if2 .taken) (c .before .before .address .ensures) (c .next-reading .ensures) (c .before .count .ensures) in
-    (omega (arith, c .before .before .before .before .before .before .before .before .before .before .loop-test), l .inv .1, l .inv .2, t .0, t .1 ∙ l .inv .4))
-    (λ c. omega (arith, c .before .before .before .before .before .before .before .before .loop .inv .1))
-    (λ c κs. c .before .before .before .before .before .before .before .before .before .before .loop .inv .3)
-    (λ c. c .before .before .before .before .before .before .before .before .before .before .before .before .loop .inv .3 .chars-long ∙ sym (c .before .before .before .before .before .before .before .before .before .before .before .before .before .before .before .before .before .before .pre .chars-long))
-    (λ c. c .before .before .before .before .before .before .before .before .before .before .before .before .loop .inv .3 .attrs-long ∙ sym (c .before .before .before .before .before .before .before .before .before .before .before .before .before .before .before .before .before .before .pre .attrs-long))
-    (λ c. c .before .before .before .before .before .before .before .before .before .before .before .before .loop .inv .2)
-    (λ c. let l = c .before .before .before .before .before .before .before .before .before .before .before .before .loop in let a = c .before .before .before .before .before .before .before .before .before .before .before .before .before .before .before .before .before .before .args in let w = world (l .u) (l .chars) (l .attrs) in ran-stop (a .rows) (a .bytes .now) (l .i) (l .at) w (l .reply) (omega (arith, c .before .before .before .before .before .before .before .before .before .before .before .loop-test)) (c .before .before .before .before .before .before .action-for .ensures) (omega (arith, c .if3 .taken, c .before .measure .ensures, l .inv .1)) ∙ l .inv .4)
-    (λ c κs. (c .before .before .before .before .before .before .before .before .before .before .before .before .before .before .before .loop .inv .3, omega (arith, c .before .before .before .before .measure .ensures, c .before .before .before .if3 .left, c .before .before .before .before .before .before .before .before .before .before .before .before .before .before .before .loop .inv .1)))
-    (λ c κs. c .before .before .before .before .before .before .before .before .before .before .before .before .before .before .before .before .before .before .before .before .loop .inv .3)
-    (λ c. omega (arith, c .before .before .before .before .before .before .before .before .before .before .before .before .before .before .before .before .before .before .before .before .before .before .before .before .loop-test, c .before .before .before .before .before .before .before .before .before .before .before .before .before .before .before .before .before .before .before .before .before .before .before .before .before .before .before .before .before .before .before))
-    (λ c. omega (arith, c .before .before .before .before .before .before .before .before .before .before .before .before .before .before .before .before .before .before .before .before .before .before .before .before .loop-test))
-    (λ c. let sent = c .before .before .before .before .before .before .before .before .before in let measured = sent .before .before .before .before .before in let chosen = measured .before .before .before .before .before in let tested = chosen .before .before .before .before .before in let l = tested .before .loop in let a = tested .before .before .before .before .before .before .before .args in let w = world (l .u) (l .chars) (l .attrs) in let fits : l .at + length (replyTo (chosen .action-for .result) w) ≤ length (l .reply) = omega (arith, measured .measure .ensures, sent .before .before .before .before .if3 .left, l .inv .1) in (omega (arith, tested .loop-test), omega (arith, sent .send .ensures .0, sent .send .kept .1 .1 .1 .1 .1 .0, fits), sent .send .kept .1 .1 .1 .1 .1 .0 ∙ l .inv .2, sound-by (c .before .before .before .before .step .ensures) (stepped-by-sound (l .inv .3) _ _), ran-turn (a .rows) (a .bytes .now) (l .i) (l .at) w (l .reply) (omega (arith, tested .loop-test)) (chosen .action-for .ensures) fits (sent .send .ensures .0) (c .before .before .before .before .step .ensures) (sent .send .ensures .1) ∙ l .inv .4))
+    let f = free-in (a .rows) (l .u) _ (sym (c .before .before .before .before .before .before .before .before .types-freely .ensures) ∙ c .before .before .before .before .before .before .before .if1 .taken) in
+    let d = c .before .before .before .copy-text .ensures in
+    let t = text-turn (a .rows) (a .bytes .now) (l .i) (l .at) w (l .reply) (l .inv .3) (f .1) (l .inv .1) d (c .go-to .ensures) in
+    (d .bytes-upto, l .inv .1, l .inv .2, t .0, t .1 ∙ l .inv .4))
+    (λ c κs.
+    let l = c .before .before .before .before .before .loop in
+    let g = l .inv .3 .good in
+    ((l .inv .3 .few, g .reading-in, g .number-in, l .inv .0), (g .place, c .before .before .before .before .before .before .actions .ensures)))
+    (λ c.
+    let l = c .before .before .before .before .before .before .before .before .before .before .loop in
+    let a = c .before .before .before .before .before .before .before .before .before .before .before .before .before .before .before .before .args in
+    let f = follow-ran (a .rows) (a .bytes .now) (l .at) (l .reply) (l .inv .1) (l .i) (world (l .u) (l .chars) (l .attrs)) (l .inv .0) (l .inv .3) (c .before .before .before .before .follow .ensures) in
+    omega (arith, f .upto, c .before .before .if2 .taken))
+    (λ c.
+    let l = c .before .before .before .before .before .before .before .before .before .before .loop in
+    let a = c .before .before .before .before .before .before .before .before .before .before .before .before .before .before .before .before .args in
+    let f = follow-ran (a .rows) (a .bytes .now) (l .at) (l .reply) (l .inv .1) (l .i) (world (l .u) (l .chars) (l .attrs)) (l .inv .0) (l .inv .3) (c .before .before .before .before .follow .ensures) in
+    (f .upto, l .inv .1, l .inv .2, f .sound, f .same ∙ l .inv .4))
+    (λ c κs. (c .before .before .before .before .before .before .before .before .before .loop .inv .3 .good .reading-in, c .before .before .before .before .before .before .before .before .before .before .actions .ensures))
+    (λ c. omega (arith, c .before .before .before .before .before .before .before .before .before .before .loop .inv .1))
+    (λ c κs. c .before .before .before .before .before .before .before .before .before .before .before .before .loop .inv .3)
+    (λ c. c .before .before .before .before .before .before .before .before .before .before .before .before .before .before .loop .inv .3 .chars-long ∙ sym (c .before .before .before .before .before .before .before .before .before .before .before .before .before .before .before .before .before .before .before .before .pre .chars-long))
+    (λ c. c .before .before .before .before .before .before .before .before .before .before .before .before .before .before .loop .inv .3 .attrs-long ∙ sym (c .before .before .before .before .before .before .before .before .before .before .before .before .before .before .before .before .before .before .before .before .pre .attrs-long))
+    (λ c. c .before .before .before .before .before .before .before .before .before .before .before .before .before .before .loop .inv .2)
+    (λ c.
+    let l = c .before .before .before .before .before .before .before .before .before .before .before .before .before .before .loop in
+    let a = c .before .before .before .before .before .before .before .before .before .before .before .before .before .before .before .before .before .before .before .before .args in
+    let w = world (l .u) (l .chars) (l .attrs) in
+    ran-stop (a .rows) (a .bytes .now) (l .i) (l .at) w (l .reply) (omega (arith, c .before .before .before .before .before .before .before .before .before .before .before .before .before .loop-test)) (c .before .before .before .before .action-for .ensures) (omega (arith, c .if3 .taken, c .before .measure .ensures, l .inv .1)) ∙ l .inv .4)
+    (λ c κs. (c .before .before .before .before .before .before .before .before .before .before .before .before .before .before .before .before .before .loop .inv .3, omega (arith, c .before .before .before .before .measure .ensures, c .before .before .before .if3 .left, c .before .before .before .before .before .before .before .before .before .before .before .before .before .before .before .before .before .loop .inv .1)))
+    (λ c κs. c .before .before .before .before .before .before .before .before .before .before .before .before .before .before .before .before .before .before .before .before .before .before .loop .inv .3)
+    (λ c. omega (arith, c .before .before .before .before .before .before .before .before .before .before .before .before .before .before .before .before .before .before .before .before .before .before .before .before .before .before .loop-test, c .before .before .before .before .before .before .before .before .before .before .before .before .before .before .before .before .before .before .before .before .before .before .before .before .before .before .before .before .before .before .before .before .before))
+    (λ c. omega (arith, c .before .before .before .before .before .before .before .before .before .before .before .before .before .before .before .before .before .before .before .before .before .before .before .before .before .before .loop-test))
+    (λ c.
+    let sent = c .before .before .before .before .before .before .before .before .before in
+    let measured = sent .before .before .before .before .before in
+    let chosen = measured .before .before .before in
+    let tested = chosen .before .before .before .before .before .before .before .before .before in
+    let l = tested .before .loop in
+    let a = tested .before .before .before .before .before .before .before .args in
+    let w = world (l .u) (l .chars) (l .attrs) in
+    let fits : l .at + length (replyTo (chosen .action-for .result) w) ≤ length (l .reply) = omega (arith, measured .measure .ensures, sent .before .before .before .before .if3 .left, l .inv .1) in (
+      omega (arith, tested .loop-test),
+      omega (arith, sent .send .ensures .0, sent .send .kept .1 .1 .1 .1 .1 .0, fits),
+      sent .send .kept .1 .1 .1 .1 .1 .0 ∙ l .inv .2,
+      sound-by (c .before .before .before .before .step .ensures) (stepped-by-sound (l .inv .3) _ _),
+      ran-turn (a .rows) (a .bytes .now) (l .i) (l .at) w (l .reply) (omega (arith, tested .loop-test)) (chosen .action-for .ensures) fits (sent .send .ensures .0) (c .before .before .before .before .step .ensures) (sent .send .ensures .1) ∙ l .inv .4,
+    ))
     (λ c. c .before .loop .inv .3 .chars-long ∙ sym (c .before .before .before .before .before .before .before .pre .chars-long))
     (λ c. c .before .loop .inv .3 .attrs-long ∙ sym (c .before .before .before .before .before .before .before .pre .attrs-long))
     (λ c. c .before .loop .inv .2)
-    (λ c. let l = c .before .loop in let a = c .before .before .before .before .before .before .before .args in let w = world (l .u) (l .chars) (l .attrs) in let e : length (a .bytes .now) ≡ l .i = omega (arith, c .loop-test, l .inv .0) in ap (λ (n : ℕ). hosted 0 n (l .at) w (l .reply)) e ∙ ran-end (a .rows) (a .bytes .now) (l .i) (l .at) w (l .reply) (sym e) ∙ l .inv .4))
+    (λ c.
+    let l = c .before .loop in
+    let a = c .before .before .before .before .before .before .before .args in
+    let w = world (l .u) (l .chars) (l .attrs) in
+    let e : length (a .bytes .now) ≡ l .i = omega (arith, c .loop-test, l .inv .0) in
+    ap (λ (n : ℕ). hosted 0 n (l .at) w (l .reply)) e ∙ ran-end (a .rows) (a .bytes .now) (l .i) (l .at) w (l .reply) (sym e) ∙ l .inv .4))
