@@ -3,7 +3,7 @@ use mathlib.Core.Path.{_≡_, refl}
 use mathlib.Core.List.{[]}
 use Rattle.cells.specs.Search.{firstOf, lastOf, countOf, nthOf, firstIn, lastIn, countIn}
 use Rattle.cells.specs.Memory.{patchFrom, patch, filled, shiftedRight, shiftedLeft, filledWhereFrom, filledWhere, movedUp, movedDown, written, posted}
-use Rattle.cursor.specs.Cursor.{gone, atCell, up, down, left, right, inColumn, homeAt, risen, fallen, isPlaced}
+use Rattle.cursor.specs.Cursor.{gone, atCell, goneUp, goneDown, goneLeft, goneRight, inColumn, homeAt, risen, fallen, isPlaced}
 use Rattle.cursor.specs.Addressing.{aimed, heldTo, toColumn, toRow, toWindowRow}
 use Rattle.cursor.specs.Stops.{tabbed, backTabbed}
 use Rattle.fields.specs.Fields.{marks, isIn, fieldEnd, kindsFrom, kinds, kindAt, unprotected, firstStart, nextStart, prevStart, nthField, fieldNumber, holds, target, letter, digit, allowed, rowUnderText}
@@ -19,5 +19,5 @@ use Rattle.cases.specs.Cases.{same, sameStops, sameState, sameMemory, sa
 
 -- no case fails
 pub proved : failing 0 cases ≡ []
-unfolding firstOf lastOf countOf nthOf firstIn lastIn countIn patchFrom patch filled shiftedRight shiftedLeft filledWhereFrom filledWhere movedUp movedDown written posted gone atCell up down left right inColumn homeAt risen fallen isPlaced aimed heldTo toColumn toRow toWindowRow tabbed backTabbed marks isIn fieldEnd kindsFrom kinds kindAt unprotected firstStart nextStart prevStart nthField fieldNumber holds target letter digit allowed rowUnderText actionOf unbegun settled counted nextReading soundNumber scrolled lineFed homed homedDown goneFound tabbedIn backTabbedIn put onward typedFree cellAfter typedAt typedIn typed displayCleared lineCleared charDeleted rowInserted rowDeleted markSet markTurned enhanced digits cursorReply statusReply fieldsFrom fieldsReply rowReply blockReply freshWorld isGood isSized barred switched tabbedBy backTabbedBy steered stamps stamped acted keyAction keyRefusal keyDone keyed fits allFit postedAt postedTo actionFor readOn steppedBy stepped pendingReply replyTo answerTo ran fed same sameStops sameState sameMemory sameWorld standsAt start room after answers cases failing
+unfolding firstOf lastOf countOf nthOf firstIn lastIn countIn patchFrom patch filled shiftedRight shiftedLeft filledWhereFrom filledWhere movedUp movedDown written posted gone atCell goneUp goneDown goneLeft goneRight inColumn homeAt risen fallen isPlaced aimed heldTo toColumn toRow toWindowRow tabbed backTabbed marks isIn fieldEnd kindsFrom kinds kindAt unprotected firstStart nextStart prevStart nthField fieldNumber holds target letter digit allowed rowUnderText actionOf unbegun settled counted nextReading soundNumber scrolled lineFed homed homedDown goneFound tabbedIn backTabbedIn put onward typedFree cellAfter typedAt typedIn typed displayCleared lineCleared charDeleted rowInserted rowDeleted markSet markTurned enhanced digits cursorReply statusReply fieldsFrom fieldsReply rowReply blockReply freshWorld isGood isSized barred switched tabbedBy backTabbedBy steered stamps stamped acted keyAction keyRefusal keyDone keyed fits allFit postedAt postedTo actionFor readOn steppedBy stepped pendingReply replyTo answerTo ran fed same sameStops sameState sameMemory sameWorld standsAt start room after answers cases failing
 proved = refl

@@ -1,9 +1,24 @@
-// Byte memories: the answer of a search, and the loops that write. Each cell is written at most once in one operation.
+// Byte memories: ranges, the answer of a search, and the loops that write. Each cell is written at most once in one operation.
 ghost use mathlib.Core.Path.{_≡_};
-ghost use Prim.Native.Nat.{_+_, _-_, _≤_, _<_};
+ghost use Prim.Native.Nat.{_+_, _-_, _≤_, _<_, min};
 ghost use mathlib.Core.List.{_++_};
 ghost use lib.ListN.{length, replicate};
+ghost use Rattle.cells.specs.Range.{within};
 ghost use Rattle.cells.specs.Memory.{filled, shiftedRight, shiftedLeft, movedUp, movedDown, written, posted};
+
+// Whether a byte is `lo` to `hi`.
+pub fn is_within(lo: u8, hi: u8, v: u8) -> bool
+    ensures { λ r. ⌜ r ≡ within lo hi v ⌝ }
+{
+    lo <= v && v <= hi
+}
+
+// The smaller of two numbers.
+pub fn least(a: usize, b: usize) -> usize
+    ensures { λ r. ⌜ r ≡ min a b ⌝ }
+{
+    if a < b { a } else { b }
+}
 
 // What a search finds: a cell's number, or nothing.
 pub enum Found {

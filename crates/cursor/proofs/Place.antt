@@ -6,7 +6,7 @@ use native.Mathlib.Omega.{arith}
 use lib.Dec.{leb, ltb}
 use borrow.Author.Tests.{ltb-true, leb-true, lt-ltb, le-leb}
 use Rattle.cursor.specs.declared.Cursor.{Cursor}
-use Rattle.cursor.specs.Cursor.{gone, cellOf, atCell, up, down, left, right, inColumn, homeAt, risen, fallen, isPlaced, InPlace}
+use Rattle.cursor.specs.Cursor.{gone, cellOf, atCell, goneUp, goneDown, goneLeft, goneRight, inColumn, homeAt, risen, fallen, isPlaced, InPlace}
 
 -- the test that passes gives the facts, the facts make it pass, and where they do not hold it fails
 pub place-in : (rows : ℕ) (c : Cursor) → isPlaced rows c ≡ true → InPlace rows c
@@ -60,20 +60,20 @@ module _ {rows : ℕ} {c : Cursor} (g : InPlace rows c) where
   unfolding atCell
   cell-in p = gone-in (omega arith) (omega arith)
 
-  pub up-in : InPlace rows (up c)
-  unfolding up
+  pub up-in : InPlace rows (goneUp c)
+  unfolding goneUp
   up-in = gone-in (omega (arith, g)) (g .col-in)
 
-  pub down-in : InPlace rows (down rows c)
-  unfolding down
+  pub down-in : InPlace rows (goneDown rows c)
+  unfolding goneDown
   down-in = gone-in (omega (arith, g)) (g .col-in)
 
-  pub left-in : InPlace rows (left c)
-  unfolding left
+  pub left-in : InPlace rows (goneLeft c)
+  unfolding goneLeft
   left-in = cell-in (omega (arith, g))
 
-  pub right-in : InPlace rows (right rows c)
-  unfolding right
+  pub right-in : InPlace rows (goneRight rows c)
+  unfolding goneRight
   right-in = cell-in (omega (arith, g))
 
   pub column-in : {col : ℕ} → col < 80 → InPlace rows (inColumn col c)

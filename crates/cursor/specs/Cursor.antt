@@ -21,18 +21,18 @@ unfoldable pub atCell : Cursor → ℕ → Cursor
 atCell c n = gone c (n / 80) (n % 80)
 
 -- up and down stop at the first and the last row
-unfoldable pub up : Cursor → Cursor
-up c = gone c (c .row - 1) (c .col)
+unfoldable pub goneUp : Cursor → Cursor
+goneUp c = gone c (c .row - 1) (c .col)
 
-unfoldable pub down : ℕ → Cursor → Cursor
-down rows c = gone c (min (c .row + 1) (rows - 1)) (c .col)
+unfoldable pub goneDown : ℕ → Cursor → Cursor
+goneDown rows c = gone c (min (c .row + 1) (rows - 1)) (c .col)
 
 -- left and right pass row ends and stop at the memory's ends
-unfoldable pub left : Cursor → Cursor
-left c = atCell c (cellOf c - 1)
+unfoldable pub goneLeft : Cursor → Cursor
+goneLeft c = atCell c (cellOf c - 1)
 
-unfoldable pub right : ℕ → Cursor → Cursor
-right rows c = atCell c (min (cellOf c + 1) (rows * 80 - 1))
+unfoldable pub goneRight : ℕ → Cursor → Cursor
+goneRight rows c = atCell c (min (cellOf c + 1) (rows * 80 - 1))
 
 unfoldable pub inColumn : ℕ → Cursor → Cursor
 inColumn col c = record { row = c .row; col = col; top = c .top }

@@ -4,7 +4,7 @@ ghost use mathlib.Core.Bool.{cond};
 ghost use lib.Dec.{ltb};
 ghost use Prim.Native.Nat.{_+_, _-_, _*_, _/_, _%_, _≤_, _<_, min};
 ghost use Rattle.cells.specs.Search.{firstIn, lastIn};
-ghost use Rattle.cursor.specs.Cursor.{topFor, gone, cellOf, atCell, up, down, left, right, inColumn, homeAt, risen, fallen, isPlaced, InPlace};
+ghost use Rattle.cursor.specs.Cursor.{topFor, gone, cellOf, atCell, goneUp, goneDown, goneLeft, goneRight, inColumn, homeAt, risen, fallen, isPlaced, InPlace};
 ghost use Rattle.cursor.specs.Addressing.{aimed, heldTo, toColumn, toRow, toWindowRow};
 ghost use Rattle.cursor.specs.Stops.{isStop, tabbed, backTabbed};
 use cells::Found;
@@ -43,28 +43,28 @@ impl Cursor {
     }
 
     pub fn go_up(self) -> Cursor
-        ensures { λ r. ⌜ r ≡ up self ⌝ }
+        ensures { λ r. ⌜ r ≡ goneUp self ⌝ }
     {
         self.go(less_one(self.row), self.col)
     }
 
     pub fn go_down(self, rows: usize) -> Cursor
         requires { ⌜ (24 ≤ rows) × (rows ≤ 96) ⌝ }
-        ensures { λ r. ⌜ r ≡ down rows self ⌝ }
+        ensures { λ r. ⌜ r ≡ goneDown rows self ⌝ }
     {
         self.go(one_more(self.row, rows), self.col)
     }
 
     pub fn go_left(self) -> Cursor
         requires { ⌜ (self .row < 96) × (self .col < 80) ⌝ }
-        ensures { λ r. ⌜ r ≡ left self ⌝ }
+        ensures { λ r. ⌜ r ≡ goneLeft self ⌝ }
     {
         self.go_to(less_one(self.cell()))
     }
 
     pub fn go_right(self, rows: usize) -> Cursor
         requires { ⌜ (self .row < 96) × (self .col < 80) × (24 ≤ rows) × (rows ≤ 96) ⌝ }
-        ensures { λ r. ⌜ r ≡ right rows self ⌝ }
+        ensures { λ r. ⌜ r ≡ goneRight rows self ⌝ }
     {
         self.go_to(one_more(self.cell(), rows * 80))
     }
@@ -93,7 +93,7 @@ impl Cursor {
         requires { ⌜ rows ≤ 96 ⌝ ∗ ⌜ InPlace rows self ⌝ }
         ensures { λ r. ⌜ r ≡ risen rows k self ⌝ }
     {
-        let d = least(k, rows - 24 - self.top);
+        let d = cells::least(k, rows - 24 - self.top);
         self.row = self.row + d;
         self.top = self.top + d;
         self
@@ -104,7 +104,7 @@ impl Cursor {
         requires { ⌜ self .top ≤ self .row ⌝ }
         ensures { λ r. ⌜ r ≡ fallen k self ⌝ }
     {
-        let d = least(k, self.top);
+        let d = cells::least(k, self.top);
         self.row = self.row - d;
         self.top = self.top - d;
         self
@@ -152,7 +152,10 @@ impl Cursor {
         ensures { λ r. ⌜ r ≡ toWindowRow rows sign value self ⌝ }
     {
         if sign == 0 {
-            return self.go(least(self.top + least(value, 23), rows - 1), self.col);
+            return self.go(
+                cells::least(self.top + cells::least(value, 23), rows - 1),
+                self.col,
+            );
         }
         self.to_row(rows, sign, value)
     }
@@ -249,12 +252,6 @@ fn one_more(n: usize, end: usize) -> usize
     ensures { λ r. ⌜ r ≡ min (n + 1) (end - 1) ⌝ }
 {
     if n < end - 1 { n + 1 } else { end - 1 }
-}
-
-fn least(a: usize, b: usize) -> usize
-    ensures { λ r. ⌜ r ≡ min a b ⌝ }
-{
-    if a < b { a } else { b }
 }
 
 // The number as a place, or as a move from `at`, held below `end`.

@@ -6,6 +6,7 @@ use mathlib.Core.List.{List, [], _∷_, map}
 use mathlib.Core.Path.{_≡_}
 use lib.ListN.{length, getD}
 use lib.Dec.{leb, eqb}
+use Rattle.cells.specs.Range.{within}
 use Rattle.cells.specs.declared.Found.{Found}
 use Rattle.cells.specs.declared.Found.the-variants.{At, Nothing}
 use Rattle.cells.specs.Search.{atOr, orElse, firstIn, lastIn, countIn, nthOf}
@@ -87,9 +88,6 @@ unfoldable pub target : List ℕ → ℕ → Found
 target ms cell = cond (unprotected ms cell) (At cell) (nextStart ms cell)
 
 -- letters fields take A-Z, a-z and blank; digits fields 0-9 and blank; any other field every character
-abbrev pub within : ℕ → ℕ → ℕ → Bool
-within lo hi v = leb lo v && leb v hi
-
 unfoldable pub letter : ℕ → Bool
 letter v = within 65 90 v || within 97 122 v || eqb v 32
 

@@ -4,7 +4,7 @@ ghost use Prim.Native.Nat.{_+_, _*_, _/_, _≤_, _<_};
 ghost use lib.ListN.{length};
 ghost use Rattle.cells.specs.Search.{firstIn, lastIn};
 ghost use Rattle.cells.specs.Memory.{filledWhere};
-ghost use Rattle.fields.specs.Fields.{markOf, marks, isIn, kindAfter, kindAt, unprotected, fieldEnd, firstStart, nextStart, prevStart, nthField, target, within, letter, digit, allowed, nonBlank, rowUnderText};
+ghost use Rattle.fields.specs.Fields.{markOf, marks, isIn, kindAfter, kindAt, unprotected, fieldEnd, firstStart, nextStart, prevStart, nthField, target, letter, digit, allowed, nonBlank, rowUnderText};
 use cells::Found;
 
 // Whether a mark is 1 to `top`.
@@ -184,20 +184,13 @@ pub fn find_target(attrs: &[u8], cell: usize) -> Found
     next_start(attrs, cell)
 }
 
-// Whether a byte is `lo` to `hi`.
-pub fn is_within(lo: u8, hi: u8, v: u8) -> bool
-    ensures { λ r. ⌜ r ≡ within lo hi v ⌝ }
-{
-    lo <= v && v <= hi
-}
-
 fn is_letter(v: u8) -> bool
     ensures { λ r. ⌜ r ≡ letter v ⌝ }
 {
-    if is_within(65, 90, v) {
+    if cells::is_within(65, 90, v) {
         return true;
     }
-    if is_within(97, 122, v) {
+    if cells::is_within(97, 122, v) {
         return true;
     }
     v == 32
@@ -206,7 +199,7 @@ fn is_letter(v: u8) -> bool
 fn is_digit(v: u8) -> bool
     ensures { λ r. ⌜ r ≡ digit v ⌝ }
 {
-    if is_within(48, 57, v) {
+    if cells::is_within(48, 57, v) {
         return true;
     }
     v == 32

@@ -15,7 +15,7 @@ use Rattle.cells.proofs.Splice.{written-none}
 use Rattle.cursor.specs.declared.Cursor.{Cursor}
 use Rattle.cursor.specs.Cursor.{topFor, gone, cellOf, atCell, InPlace}
 use Rattle.cursor.proofs.Place.{cell-of, cell-in}
-use Rattle.fields.specs.Fields.{within}
+use Rattle.cells.specs.Range.{within}
 use Rattle.reading.specs.declared.Number.{Number}
 use Rattle.reading.specs.Action as Action
 use Rattle.reading.specs.Reading.{actionOf, actionAt, settled, counted, nextReading, clear}

@@ -9,7 +9,7 @@ use Rattle.cells.specs.Memory.{patch}
 use Rattle.cursor.specs.declared.Cursor.{Cursor}
 use Rattle.cursor.specs.Cursor.{cellOf}
 use Rattle.cursor.specs.Addressing.{toColumn, toRow, toWindowRow}
-use Rattle.fields.specs.Fields.{within}
+use Rattle.cells.specs.Range.{within}
 use Rattle.reading.specs.declared.Number.{Number}
 use Rattle.reading.specs.Action as Action
 use Rattle.terminal.specs.declared.Terminal.{Terminal}

@@ -1,6 +1,6 @@
 // The call for host bytes.
 ghost use mathlib.Core.Path.{_≡_};
-ghost use Prim.Native.Nat.{_+_, _≤_, _<_, min};
+ghost use Prim.Native.Nat.{_+_, _≤_, _<_};
 ghost use mathlib.Core.Bool.{true};
 ghost use lib.ListN.{length, getD, drop};
 ghost use Rattle.cells.specs.Memory.{written};
@@ -149,7 +149,7 @@ fn send(
 fn is_text(byte: u8) -> bool
     ensures { λ r. ⌜ r ≡ isText byte ⌝ }
 {
-    fields::is_within(32, 126, byte % 128)
+    cells::is_within(32, 126, byte % 128)
 }
 
 // Whether an action is of a sequence, or rests: it changes the cursor, the reading state and the number alone, and sends nothing.
@@ -159,7 +159,7 @@ fn is_in_sequence(a: u8) -> bool
     if a <= reading::ESC {
         return true;
     }
-    fields::is_within(reading::TO_GROUP, reading::STAY, a)
+    cells::is_within(reading::TO_GROUP, reading::STAY, a)
 }
 
 // The cursor after such an action.
@@ -167,13 +167,13 @@ fn address(c: Cursor, rows: usize, a: u8, n: Number) -> Cursor
     requires { ⌜ (rows ≤ 96) × (n .value ≤ 999) ⌝ ∗ ⌜ InPlace rows c ⌝ }
     ensures { λ r. ⌜ r ≡ addressed rows a n c ⌝ }
 {
-    if fields::is_within(reading::COLUMN_ON, reading::COLUMN_END, a) {
+    if cells::is_within(reading::COLUMN_ON, reading::COLUMN_END, a) {
         return c.to_column(n.sign, n.value);
     }
-    if fields::is_within(reading::ROW_ON, reading::ROW_END, a) {
+    if cells::is_within(reading::ROW_ON, reading::ROW_END, a) {
         return c.to_row(rows, n.sign, n.value);
     }
-    if fields::is_within(reading::WINDOW_ON, reading::WINDOW_END, a) {
+    if cells::is_within(reading::WINDOW_ON, reading::WINDOW_END, a) {
         return c.to_window_row(rows, n.sign, n.value);
     }
     c
@@ -240,18 +240,12 @@ fn types_freely(t: Terminal, rows: usize, byte: u8) -> bool
     t.cursor.row * 80 + t.cursor.col + 1 < rows * 80
 }
 
-fn least(a: usize, b: usize) -> usize
-    ensures { λ r. ⌜ r ≡ min a b ⌝ }
-{
-    if a <= b { a } else { b }
-}
-
 // The run of text that begins at byte `from`, to the cells from `cell` on, up to the last but one; how many bytes.
 fn copy_text(chars: &mut [u8], bytes: &[u8], from: usize, cell: usize) -> usize
     requires { ⌜ (from < length (now bytes)) × (cell + 1 < length (now chars)) × (isText (getD (now bytes) from 0) ≡ true) ⌝ }
     ensures { λ r. ⌜ Copied (now (bytes .entry)) from (now (chars .entry)) cell r (now (chars .exit)) ⌝ }
 {
-    let most = least(bytes.len() - from, chars.len() - 1 - cell);
+    let most = cells::least(bytes.len() - from, chars.len() - 1 - cell);
     let mut n = 0;
     while n < most {
         let b = bytes[from + n];

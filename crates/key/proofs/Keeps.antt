@@ -7,7 +7,7 @@ use lib.ListN.{length}
 use lib.Dec.{eqb}
 use borrow.Author.Tests.{eqb-true}
 use Rattle.cursor.specs.declared.Cursor.{Cursor}
-use Rattle.fields.specs.Fields.{within}
+use Rattle.cells.specs.Range.{within}
 use Rattle.reading.specs.Action as Action
 use Rattle.reading.proofs.Rules.{either}
 use Rattle.screen.proofs.Kept.{choose-by}

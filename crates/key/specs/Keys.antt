@@ -7,7 +7,8 @@ use lib.Dec.{ltb, eqb}
 use Rattle.cells.specs.declared.Found.{Found}
 use Rattle.cells.specs.declared.Found.the-variants.{At, Nothing}
 use Rattle.cursor.specs.Cursor.{cellOf}
-use Rattle.fields.specs.Fields.{marks, kindAt, target, within, allowed}
+use Rattle.cells.specs.Range.{within}
+use Rattle.fields.specs.Fields.{marks, kindAt, target, allowed}
 use Rattle.reading.specs.Action as Action
 use Rattle.terminal.specs.State.{World, world, isGood, isSized, barred}
 use Rattle.terminal.specs.Acts.{acted}

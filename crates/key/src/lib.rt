@@ -2,7 +2,8 @@
 ghost use mathlib.Core.Path.{_≡_};
 ghost use Prim.Native.Nat.{_≤_, _<_};
 ghost use lib.ListN.{length};
-ghost use Rattle.fields.specs.Fields.{marks, target, within};
+ghost use Rattle.cells.specs.Range.{within};
+ghost use Rattle.fields.specs.Fields.{marks, target};
 ghost use Rattle.terminal.specs.State.{world, Sound};
 ghost use Rattle.key.specs.Keys.{keyAction, textRefusal, keyRefusal, keyLeft, keyDone, keyed};
 use cells::Found;

@@ -7,7 +7,8 @@ use lib.Dec.{ltb}
 use Rattle.cells.specs.declared.Found.{Found}
 use Rattle.cells.specs.declared.Found.the-variants.{At, Nothing}
 use Rattle.cells.specs.Memory.{posted}
-use Rattle.fields.specs.Fields.{marks, kindAt, fieldEnd, nthField, within, allowed}
+use Rattle.cells.specs.Range.{within}
+use Rattle.fields.specs.Fields.{marks, kindAt, fieldEnd, nthField, allowed}
 use Rattle.terminal.specs.State.{World, world, isGood, isSized, barred}
 use Rattle.post.specs.declared.PostAnswer.{PostAnswer}
 

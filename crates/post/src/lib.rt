@@ -17,7 +17,7 @@ pub struct PostAnswer {
 fn fits_one(kind: u8, b: u8) -> bool
     ensures { λ r. ⌜ r ≡ fits kind b ⌝ }
 {
-    if fields::is_within(32, 126, b) {
+    if cells::is_within(32, 126, b) {
         return fields::allows(kind, b);
     }
     false

@@ -14,7 +14,8 @@ use Rattle.cells.specs.Memory.{written}
 use Rattle.cells.proofs.Search.{not-both}
 use Rattle.cells.proofs.Splice.{length-written}
 use Rattle.cursor.specs.Cursor.{cellOf}
-use Rattle.fields.specs.Fields.{marks, kindAt, fieldEnd, nthField, target, within, allowed}
+use Rattle.cells.specs.Range.{within}
+use Rattle.fields.specs.Fields.{marks, kindAt, fieldEnd, nthField, target, allowed}
 use Rattle.reading.specs.Action as Action
 use Rattle.screen.proofs.Kept.{choose-by}
 use Rattle.terminal.specs.State.{World, isGood, isSized, barred}

@@ -9,7 +9,7 @@ use borrow.Author.Tests.{eqb-false}
 use Rattle.cells.specs.Search.{firstOf, lastOf, countOf, nthOf, firstIn, lastIn, countIn}
 use Rattle.cells.specs.Memory.{patchFrom, patch, filled, shiftedRight, shiftedLeft, filledWhereFrom, filledWhere, written, posted}
 use Rattle.cursor.specs.declared.Cursor.{Cursor}
-use Rattle.cursor.specs.Cursor.{gone, atCell, left, inColumn, homeAt, isPlaced}
+use Rattle.cursor.specs.Cursor.{gone, atCell, goneLeft, inColumn, homeAt, isPlaced}
 use Rattle.cursor.specs.Addressing.{aimed, heldTo, toColumn, toRow}
 use Rattle.fields.specs.Fields.{marks, isIn, fieldEnd, kindsFrom, kinds, kindAt, unprotected, firstStart, nextStart, prevStart, nthField, fieldNumber, holds, target, letter, digit, allowed, rowUnderText}
 use Rattle.reading.specs.Reading.{actionOf, unbegun, settled, counted, nextReading, soundNumber}
@@ -27,7 +27,7 @@ use Rattle.promises.proofs.Mixing.{mixes-agree}
 
 -- what these computations look into
 unfoldable machine : ℕ
-unfolding firstOf lastOf countOf nthOf firstIn lastIn countIn patchFrom patch filled shiftedRight shiftedLeft filledWhereFrom filledWhere written posted gone atCell left inColumn homeAt isPlaced aimed heldTo toColumn toRow marks isIn fieldEnd kindsFrom kinds kindAt unprotected firstStart nextStart prevStart nthField fieldNumber holds target letter digit allowed rowUnderText actionOf unbegun settled counted nextReading soundNumber homed homedDown goneFound backTabbedIn put cellAfter typedAt typedIn typed displayCleared lineCleared charDeleted markSet markTurned freshWorld isGood isSized barred switched backTabbedBy steered stamps stamped acted keyAction keyRefusal keyDone keyed fits allFit postedAt postedTo actionFor readOn steppedBy byteStepped replyTo answerTo ran fed form
+unfolding firstOf lastOf countOf nthOf firstIn lastIn countIn patchFrom patch filled shiftedRight shiftedLeft filledWhereFrom filledWhere written posted gone atCell goneLeft inColumn homeAt isPlaced aimed heldTo toColumn toRow marks isIn fieldEnd kindsFrom kinds kindAt unprotected firstStart nextStart prevStart nthField fieldNumber holds target letter digit allowed rowUnderText actionOf unbegun settled counted nextReading soundNumber homed homedDown goneFound backTabbedIn put cellAfter typedAt typedIn typed displayCleared lineCleared charDeleted markSet markTurned freshWorld isGood isSized barred switched backTabbedBy steered stamps stamped acted keyAction keyRefusal keyDone keyed fits allFit postedAt postedTo actionFor readOn steppedBy byteStepped replyTo answerTo ran fed form
 machine = 0
 
 form-sound : Sound 48 form

@@ -6,11 +6,9 @@ use mathlib.Core.List.{List}
 use Prim.Native.Nat.{ℕ, _+_, _-_, _*_, _%_, _≤_, _<_, min}
 use lib.ListN.{getD}
 use lib.Dec.{eqb, leb, ltb}
+use Rattle.cells.specs.Range.{within}
 use Rattle.reading.specs.declared.Number.{Number}
 use Rattle.reading.specs.Action.{rest, esc, ack, left, tab, lineFeed, column0, trigger, text, up, down, right, home, homeAll, homeDown, backTab, clearDisplay, clearLine, insertRow, deleteRow, deleteChar, insertOn, insertOff, rollUp, rollDown, nextPage, prevPage, formatOn, formatOff, setTab, clearTab, clearTabs, mark1, mark4, mark5, turn2, turn3, turn1, askAbsolute, askWindow, askStatus, askBlock, lockOff, lockOn, softReset, hardReset, toGroup, toSet, toCursor, toEnhance, toOther, plus, minus, digit, columnOn, columnEnd, rowOn, rowEnd, windowOn, windowEnd, stay, enhance}
-
-abbrev pub within : ℕ → ℕ → ℕ → Bool
-within lo hi b = leb lo b && leb b hi
 
 -- state 0, plain
 abbrev pub inPlain : ℕ → ℕ

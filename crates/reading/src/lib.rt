@@ -174,16 +174,9 @@ fn add_digit(value: usize, b: u8) -> usize
     ensures { λ r. ⌜ r ≡ min 999 (value * 10 + (b - 48)) ⌝ }
 {
     if b < 48 {
-        return least(999, value * 10);
+        return cells::least(999, value * 10);
     }
-    least(999, value * 10 + (b - 48) as usize)
-}
-
-// The smaller of two numbers.
-fn least(a: usize, b: usize) -> usize
-    ensures { λ r. ⌜ r ≡ min a b ⌝ }
-{
-    if a < b { a } else { b }
+    cells::least(999, value * 10 + (b - 48) as usize)
 }
 
 impl Number {

@@ -10,7 +10,7 @@ use Rattle.cells.specs.declared.Found.the-variants.{At, Nothing}
 use Rattle.cells.specs.Search.{atOr}
 use Rattle.cells.specs.Memory.{filled, filledWhere, shiftedRight, shiftedLeft, movedUp, movedDown}
 use Rattle.cursor.specs.declared.Cursor.{Cursor}
-use Rattle.cursor.specs.Cursor.{cellOf, gone, atCell, down, inColumn, homeAt}
+use Rattle.cursor.specs.Cursor.{cellOf, gone, atCell, goneDown, inColumn, homeAt}
 use Rattle.fields.specs.Fields.{markOf, isIn, rowEnd, kindAt, unprotected, fieldEnd, firstStart, nextStart, prevStart, target, allowed, rowUnderText}
 use Rattle.screen.specs.Page.{Page, page, withCursor, cell, marksOf}
 
@@ -20,7 +20,7 @@ unfoldable pub scrolled : Page → Page
 scrolled p = page (p .cursor) (movedUp (p .chars) 0 32) (movedUp (p .attrs) 0 0)
 
 unfoldable pub lineFed : ℕ → Bool → Page → Page
-lineFed rows format p = cond (ltb (p .cursor .row + 1) rows) (withCursor (down rows (p .cursor)) p) (cond format p (scrolled p))
+lineFed rows format p = cond (ltb (p .cursor .row + 1) rows) (withCursor (goneDown rows (p .cursor)) p) (cond format p (scrolled p))
 
 -- ---- home: top 0, the cursor at the first field whose mark is 1 to top, or at (0,0) with format off or none
 unfoldable pub homed : Bool → ℕ → List ℕ → Cursor

@@ -3,7 +3,7 @@ ghost use mathlib.Core.Path.{_≡_};
 ghost use mathlib.Core.Bool.{true, false, cond};
 ghost use Prim.Native.Nat.{_*_, _≤_, _<_};
 ghost use lib.ListN.{length, replicate};
-ghost use Rattle.cursor.specs.Cursor.{cellOf, up, down, left, right, inColumn, risen, fallen, InPlace};
+ghost use Rattle.cursor.specs.Cursor.{cellOf, goneUp, goneDown, goneLeft, goneRight, inColumn, risen, fallen, InPlace};
 ghost use Rattle.cursor.specs.Addressing.{toColumn, toRow, toWindowRow};
 ghost use Rattle.fields.specs.Fields.{marks};
 ghost use Rattle.screen.specs.Edits.{homed, homedDown, lineFed, typed, displayCleared, lineCleared, charDeleted, rowInserted, rowDeleted};
@@ -173,7 +173,7 @@ impl Terminal {
 // Moves of the cursor.
 impl Terminal {
     pub fn move_up(mut self) -> Terminal
-        ensures { λ r. ⌜ r ≡ placed self (up (self .cursor)) ⌝ }
+        ensures { λ r. ⌜ r ≡ placed self (goneUp (self .cursor)) ⌝ }
     {
         self.cursor = self.cursor.go_up();
         self
@@ -181,7 +181,7 @@ impl Terminal {
 
     pub fn move_down(mut self, rows: usize) -> Terminal
         requires { ⌜ (24 ≤ rows) × (rows ≤ 96) ⌝ }
-        ensures { λ r. ⌜ r ≡ placed self (down rows (self .cursor)) ⌝ }
+        ensures { λ r. ⌜ r ≡ placed self (goneDown rows (self .cursor)) ⌝ }
     {
         self.cursor = self.cursor.go_down(rows);
         self
@@ -189,7 +189,7 @@ impl Terminal {
 
     pub fn move_right(mut self, rows: usize) -> Terminal
         requires { ⌜ rows ≤ 96 ⌝ ∗ ⌜ InPlace rows (self .cursor) ⌝ }
-        ensures { λ r. ⌜ r ≡ placed self (right rows (self .cursor)) ⌝ }
+        ensures { λ r. ⌜ r ≡ placed self (goneRight rows (self .cursor)) ⌝ }
     {
         self.cursor = self.cursor.go_right(rows);
         self
@@ -197,7 +197,7 @@ impl Terminal {
 
     pub fn move_left(mut self, rows: usize) -> Terminal
         requires { ⌜ rows ≤ 96 ⌝ ∗ ⌜ InPlace rows (self .cursor) ⌝ }
-        ensures { λ r. ⌜ r ≡ placed self (left (self .cursor)) ⌝ }
+        ensures { λ r. ⌜ r ≡ placed self (goneLeft (self .cursor)) ⌝ }
     {
         self.cursor = self.cursor.go_left();
         self
@@ -328,7 +328,7 @@ impl Terminal {
 fn is_stamp(a: u8) -> bool
     ensures { λ r. ⌜ r ≡ stamps a ⌝ }
 {
-    if fields::is_within(reading::MARK_1, reading::TURN_1, a) {
+    if cells::is_within(reading::MARK_1, reading::TURN_1, a) {
         return true;
     }
     a == reading::ENHANCE

@@ -1,7 +1,7 @@
--- `fields::is_within` meets its contract: the second test counts where the first holds. Assumes nothing.
+-- `cells::is_within` meets its contract: the second test counts where the first holds. Assumes nothing.
 use borrow.Author.Tests.{le-leb, lt-leb}
-use Rattle.fields.proofs.is_within.Statement.{statement}
-use Rattle.fields.proofs.is_within.Tie as tie
+use Rattle.cells.proofs.is_within.Statement.{statement}
+use Rattle.cells.proofs.is_within.Tie as tie
 
 pub is-within-spec : {M : Type 1} → statement M
 is-within-spec =
