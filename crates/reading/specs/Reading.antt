@@ -1,8 +1,8 @@
--- Document 01, 'Reading host bytes': which action a byte asks for in each reading state, by decisions in the document's order.
+-- Document 01, 'Reading host bytes': which action a byte asks for in each reading state, by lists and decisions in the document's order.
 -- Assumes nothing.
 use mathlib.Core.Path.{_≡_}
 use mathlib.Core.Bool.{Bool, true, false, cond, _&&_, _||_, not}
-use mathlib.Core.List.{List}
+use mathlib.Core.List.{List, [], _∷_}
 use Prim.Native.Nat.{ℕ, _+_, _-_, _*_, _%_, _≤_, _<_, min}
 use lib.ListN.{getD}
 use lib.Dec.{eqb, leb, ltb}
@@ -10,86 +10,75 @@ use Rattle.cells.specs.Range.{within}
 use Rattle.reading.specs.declared.Number.{Number}
 use Rattle.reading.specs.Action.{rest, esc, ack, left, tab, lineFeed, column0, trigger, text, up, down, right, home, homeAll, homeDown, backTab, clearDisplay, clearLine, insertRow, deleteRow, deleteChar, insertOn, insertOff, rollUp, rollDown, nextPage, prevPage, formatOn, formatOff, setTab, clearTab, clearTabs, mark1, mark4, mark5, turn2, turn3, turn1, askAbsolute, askWindow, askStatus, askBlock, lockOff, lockOn, softReset, hardReset, toGroup, toSet, toCursor, toEnhance, toOther, plus, minus, digit, columnOn, columnEnd, rowOn, rowEnd, windowOn, windowEnd, stay, enhance}
 
+-- the action that a list of byte and action has beside byte b, or `other` where it does not list b
+abbrev pub listed : List (ℕ × ℕ) → ℕ → ℕ → ℕ
+listed [] other b = other
+listed (row ∷ rows) other b = cond (eqb b (row .0)) (row .1) (listed rows other b)
+
 -- state 0, plain
 abbrev pub inPlain : ℕ → ℕ
 inPlain b =
-    cond (eqb b 5) ack
-    (cond (eqb b 8) left
-    (cond (eqb b 9) tab
-    (cond (eqb b 10) lineFeed
-    (cond (eqb b 13) column0
-    (cond (eqb b 17) trigger
-    (cond (within 32 126 b) text
-    rest))))))
+    listed ((5, ack) ∷ (8, left) ∷ (9, tab) ∷ (10, lineFeed) ∷ (13, column0) ∷ (17, trigger) ∷ [])
+    (cond (within 32 126 b) text rest) b
 
--- state 1, after ESC: each row is a letter's code and its action
-abbrev pub afterEsc : ℕ → ℕ
-afterEsc b =
-    cond (eqb b 65) up  -- A
-    (cond (eqb b 66) down  -- B
-    (cond (eqb b 67) right  -- C
-    (cond (eqb b 68) left  -- D
-    (cond (eqb b 71) column0  -- G
-    (cond (eqb b 72) home  -- H
-    (cond (eqb b 104) homeAll  -- h
-    (cond (eqb b 70) homeDown  -- F
-    (cond (eqb b 73) tab  -- I
-    (cond (eqb b 105) backTab  -- i
-    (cond (eqb b 74) clearDisplay  -- J
-    (cond (eqb b 75) clearLine  -- K
-    (cond (eqb b 76) insertRow  -- L
-    (cond (eqb b 77) deleteRow  -- M
-    (cond (eqb b 80) deleteChar  -- P
-    (cond (eqb b 81) insertOn  -- Q
-    (cond (eqb b 82) insertOff  -- R
-    (cond (eqb b 83) rollUp  -- S
-    (cond (eqb b 84) rollDown  -- T
-    (cond (eqb b 85) nextPage  -- U
-    (cond (eqb b 86) prevPage  -- V
-    (cond (eqb b 87) formatOn  -- W
-    (cond (eqb b 88) formatOff  -- X
-    (cond (eqb b 49) setTab  -- 1
-    (cond (eqb b 50) clearTab  -- 2
-    (cond (eqb b 51) clearTabs  -- 3
-    (cond (eqb b 91) mark1  -- [
-    (cond (eqb b 123) mark4  -- {
-    (cond (eqb b 93) mark5  -- ]
-    (cond (eqb b 54) turn2  -- 6
-    (cond (eqb b 55) turn3  -- 7
-    (cond (eqb b 56) turn1  -- 8
-    (cond (eqb b 97) askAbsolute  -- a
-    (cond (eqb b 96) askWindow  -- `
-    (cond (eqb b 94) askStatus  -- ^
-    (cond (eqb b 100) askBlock  -- d
-    (cond (eqb b 98) lockOff  -- b
-    (cond (eqb b 99) lockOn  -- c
-    (cond (eqb b 103) softReset  -- g
-    (cond (eqb b 69) hardReset  -- E
-    (cond (eqb b 38) toGroup  -- &
-    (cond (eqb b 41) toSet  -- )
-    rest)))))))))))))))))))))))))))))))))))))))))
+-- state 1, after ESC; any other byte ends
+abbrev pub afterEsc : List (ℕ × ℕ)
+afterEsc =
+    (65, up) ∷  -- A
+    (66, down) ∷  -- B
+    (67, right) ∷  -- C
+    (68, left) ∷  -- D
+    (71, column0) ∷  -- G
+    (72, home) ∷  -- H
+    (104, homeAll) ∷  -- h
+    (70, homeDown) ∷  -- F
+    (73, tab) ∷  -- I
+    (105, backTab) ∷  -- i
+    (74, clearDisplay) ∷  -- J
+    (75, clearLine) ∷  -- K
+    (76, insertRow) ∷  -- L
+    (77, deleteRow) ∷  -- M
+    (80, deleteChar) ∷  -- P
+    (81, insertOn) ∷  -- Q
+    (82, insertOff) ∷  -- R
+    (83, rollUp) ∷  -- S
+    (84, rollDown) ∷  -- T
+    (85, nextPage) ∷  -- U
+    (86, prevPage) ∷  -- V
+    (87, formatOn) ∷  -- W
+    (88, formatOff) ∷  -- X
+    (49, setTab) ∷  -- 1
+    (50, clearTab) ∷  -- 2
+    (51, clearTabs) ∷  -- 3
+    (91, mark1) ∷  -- [
+    (123, mark4) ∷  -- {
+    (93, mark5) ∷  -- ]
+    (54, turn2) ∷  -- 6
+    (55, turn3) ∷  -- 7
+    (56, turn1) ∷  -- 8
+    (97, askAbsolute) ∷  -- a
+    (96, askWindow) ∷  -- `
+    (94, askStatus) ∷  -- ^
+    (100, askBlock) ∷  -- d
+    (98, lockOff) ∷  -- b
+    (99, lockOn) ∷  -- c
+    (103, softReset) ∷  -- g
+    (69, hardReset) ∷  -- E
+    (38, toGroup) ∷  -- &
+    (41, toSet) ∷  -- )
+    []
 
--- state 2: after ESC &
+-- state 2, after ESC &: a, d, another lowercase letter; any other byte ends
 abbrev pub inGroup : ℕ → ℕ
-inGroup b =
-    cond (eqb b 97) toCursor
-    (cond (eqb b 100) toEnhance
-    (cond (within 97 122 b) toOther
-    rest))
+inGroup b = listed ((97, toCursor) ∷ (100, toEnhance) ∷ []) (cond (within 97 122 b) toOther rest) b
 
--- state 3: in ESC & a. Whether a sign may stand here depends on the number so far: `settled`, below, decides it
+-- state 3, in ESC & a: + or -, a digit, then c or C, r or R, y or Y; any other byte ends. Whether a sign may stand here depends on the number so far:
+-- `settled`, below, decides it
 abbrev pub inCursor : ℕ → ℕ
 inCursor b =
-    cond (eqb b 43) plus
-    (cond (eqb b 45) minus
+    listed ((43, plus) ∷ (45, minus) ∷ [])
     (cond (within 48 57 b) digit
-    (cond (eqb b 99) columnOn
-    (cond (eqb b 67) columnEnd
-    (cond (eqb b 114) rowOn
-    (cond (eqb b 82) rowEnd
-    (cond (eqb b 121) windowOn
-    (cond (eqb b 89) windowEnd
-    rest))))))))
+    (listed ((99, columnOn) ∷ (67, columnEnd) ∷ (114, rowOn) ∷ (82, rowEnd) ∷ (121, windowOn) ∷ (89, windowEnd) ∷ []) rest b)) b
 
 -- state 4: in ESC & d
 abbrev pub inEnhance : ℕ → ℕ
@@ -103,7 +92,7 @@ inOther b = cond (within 64 90 b || ltb b 32) rest stay
 abbrev pub inState : ℕ → ℕ → ℕ
 inState s b =
     cond (eqb s 0) (inPlain b)
-    (cond (eqb s 1) (afterEsc b)
+    (cond (eqb s 1) (listed afterEsc rest b)
     (cond (eqb s 2) (inGroup b)
     (cond (eqb s 3) (inCursor b)
     (cond (eqb s 4) (inEnhance b)
