@@ -1,15 +1,16 @@
--- Signed numbers: a small number as a signed one, what a test against 0 tells, and `aimed` for each sign. Assumes nothing.
-use Prim.Native.Nat.{ℕ, zero, suc, _+_, _-_, _<_, _^_, min}
-use mathlib.Core.Path.{_≡_, refl}
+-- Signed numbers: a small number as a signed one, what a test against 0 tells, and a number with its sign. Assumes nothing.
+use Prim.Native.Nat.{ℕ, zero, suc, _+_, _-_, _≤_, _<_, _^_, min}
+use mathlib.Core.Path.{_≡_, refl, ap, _∙_}
 use mathlib.Core.Bool.{Bool, true, false, cond}
 use native.Mathlib.Omega.{arith}
-use lib.Dec.{T, ltb}
-use lib.IntN.{ℤ, pos, negsuc, subℕ, natAbs, _-ℤ_}
+use lib.Dec.{T, eqb, ltb}
+use lib.IntN.{ℤ, pos, negsuc, subℕ, natAbs, negℤ, _+ℤ_, _-ℤ_}
 use lib.Signed.{mag, ltZ, nonNeg}
 use mir.Syntax.{w64}
-use mir.Val.{SFits, toZ}
+use mir.Val.{SFits, toZ, ofZ}
+use mir.Facts.{toZ-ofZ}
 use borrow.Author.Tests.{lt-ltb, le-ltb, ltb-true, eq-eqb, ne-eqb}
-use Rattle.cursor.specs.Addressing.{aimed, heldTo}
+use Rattle.cursor.specs.Addressing.{signed, aimed, heldTo}
 
 -- a number below 2 ^ 63 is itself as a signed one
 pub small : (n : ℕ) → n < 2 ^ 63 → toZ w64 n ≡ pos n
@@ -42,15 +43,40 @@ pub from-zero : (x : ℤ) → ltZ x (pos 0) ≡ false → T (nonNeg x)
 from-zero (pos a) e = tt
 from-zero (negsuc a) e = let z : _≡_ {A = ℕ} 0 1 = cc in absurd (omega arith)
 
--- ---- the number as a place, or as a move
+-- ---- the number with its sign, and as a place or as a move
+pub signed-plus : (sign value : ℕ) → sign ≡ 1 → signed sign value ≡ pos value
+signed-plus sign value e = rw (eq-eqb sign 1 e)
+
+from-none : (b : ℕ) → negℤ (pos b) ≡ pos 0 -ℤ pos b
+from-none zero = refl
+from-none (suc b) = let p : ltb zero (suc b) ≡ true = lt-ltb zero (suc b) (omega arith) in let q : suc b - 1 ≡ b = omega arith in rw (p, q)
+
+pub signed-minus : (sign value : ℕ) → (sign ≡ 1 → ⊥) → signed sign value ≡ pos 0 -ℤ pos value
+signed-minus sign value e = rw (ne-eqb sign 1 e) (from-none value)
+
 pub aimed-place : (sign at value : ℕ) → sign ≡ 0 → aimed sign at value ≡ pos value
 unfolding aimed
 aimed-place sign at value e = rw (eq-eqb sign 0 e)
 
-pub aimed-plus : (sign at value : ℕ) → sign ≡ 1 → aimed sign at value ≡ pos (at + value)
+pub aimed-move : (sign at value : ℕ) → (sign ≡ 0 → ⊥) → aimed sign at value ≡ pos at +ℤ signed sign value
 unfolding aimed
-aimed-plus sign at value e = let z : sign ≡ 0 → ⊥ = omega arith in rw (ne-eqb sign 0 z, eq-eqb sign 1 e)
+aimed-move sign at value e = rw (ne-eqb sign 0 e)
 
-pub aimed-minus : (sign at value : ℕ) → (sign ≡ 0 → ⊥) → (sign ≡ 1 → ⊥) → aimed sign at value ≡ pos at -ℤ pos value
-unfolding aimed
-aimed-minus sign at value z e = rw (ne-eqb sign 0 z, ne-eqb sign 1 e)
+-- a move of at most 999, and a place below 96 with that move, fit
+signed-fits : (sign value : ℕ) → value ≤ 999 → SFits w64 (signed sign value)
+signed-fits sign value q = either (eqb sign 1)
+  where
+    either : (t : Bool) → SFits w64 (cond t (pos value) (negℤ (pos value)))
+    either true = record { sfits = omega arith }
+    either false = rw (from-none value) (minus-fits 0 value (omega arith) (omega arith))
+
+pub move-fits : (sign at value : ℕ) → at < 96 → value ≤ 999 → SFits w64 (pos at +ℤ signed sign value)
+move-fits sign at value p q = either (eqb sign 1)
+  where
+    either : (t : Bool) → SFits w64 (pos at +ℤ cond t (pos value) (negℤ (pos value)))
+    either true = record { sfits = omega arith }
+    either false = minus-fits at value (omega arith) (omega arith)
+
+-- the move as a call hands it back
+pub move-back : (sign value : ℕ) {x : ℤ} → value ≤ 999 → x ≡ signed sign value → toZ w64 (ofZ w64 x) ≡ signed sign value
+move-back sign value q e = ap (λ z. toZ w64 (ofZ w64 z)) e ∙ toZ-ofZ (signed-fits sign value q)

@@ -6,9 +6,13 @@ use lib.IntN.{ℤ, pos, negsuc, negℤ, _+ℤ_}
 use Rattle.cursor.specs.declared.Cursor.{Cursor}
 use Rattle.cursor.specs.Cursor.{gone, inColumn}
 
--- sign 0 none, 1 plus, 2 minus: the number is a place, or a move from `at`
+-- the number with its sign, a move of minus 999 to 999: sign 1 is plus, 2 minus
+abbrev pub signed : ℕ → ℕ → ℤ
+signed sign value = cond (eqb sign 1) (pos value) (negℤ (pos value))
+
+-- with a sign the number is a move from `at`, else (sign 0) a place
 unfoldable pub aimed : ℕ → ℕ → ℕ → ℤ
-aimed sign at value = cond (eqb sign 0) (pos value) (pos at +ℤ cond (eqb sign 1) (pos value) (negℤ (pos value)))
+aimed sign at value = cond (eqb sign 0) (pos value) (pos at +ℤ signed sign value)
 
 -- held to 0 to n - 1
 unfoldable pub heldTo : ℕ → ℤ → ℕ

@@ -5,7 +5,7 @@ ghost use lib.Dec.{ltb};
 ghost use Prim.Native.Nat.{_+_, _-_, _*_, _/_, _%_, _≤_, _<_, min};
 ghost use Rattle.cells.specs.Search.{firstIn, lastIn};
 ghost use Rattle.cursor.specs.Cursor.{topFor, gone, cellOf, atCell, goneUp, goneDown, goneLeft, goneRight, inColumn, homeAt, risen, fallen, isPlaced, InPlace};
-ghost use Rattle.cursor.specs.Addressing.{aimed, heldTo, toColumn, toRow, toWindowRow};
+ghost use Rattle.cursor.specs.Addressing.{signed, aimed, heldTo, toColumn, toRow, toWindowRow};
 ghost use Rattle.cursor.specs.Stops.{isStop, tabbed, backTabbed};
 use cells::Found;
 
@@ -259,15 +259,19 @@ fn address(sign: u8, at: usize, value: usize, end: usize) -> usize
     requires { ⌜ (at < 96) × (value ≤ 999) × (0 < end) × (end ≤ 96) ⌝ }
     ensures { λ r. ⌜ r ≡ heldTo end (aimed sign at value) ⌝ }
 {
-    let v = value as i64;
     if sign == 0 {
-        return hold(v, end);
+        return hold(value as i64, end);
     }
-    let a = at as i64;
-    if sign == 1 {
-        return hold(a + v, end);
-    }
-    hold(a - v, end)
+    hold(at as i64 + give_sign(sign, value), end)
+}
+
+// The number with its sign, a move of minus 999 to 999.
+fn give_sign(sign: u8, value: usize) -> i64
+    requires { ⌜ value ≤ 999 ⌝ }
+    ensures { λ r. ⌜ r ≡ signed sign value ⌝ }
+{
+    let v = value as i64;
+    if sign == 1 { v } else { -v }
 }
 
 // Held to 0 to `end - 1`.
