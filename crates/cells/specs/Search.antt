@@ -1,7 +1,7 @@
 -- Searches of a memory: the first, the last, the n-th and the number of the cells whose value passes a test. Each walks the list once.
 -- Assumes nothing.
 use Prim.Native.Nat.{ℕ, suc, _-_}
-use mathlib.Core.Bool.{Bool, cond}
+use mathlib.Core.Bool.{Bool, true, false, cond}
 use mathlib.Core.List.{List, [], _∷_}
 use lib.Seq.{slice}
 use lib.Dec.{eqb}
@@ -17,6 +17,11 @@ atOr d Nothing = d
 abbrev pub orElse : Found → Found → Found
 orElse (At i) b = At i
 orElse Nothing b = b
+
+-- whether there is none
+abbrev pub isNothing : Found → Bool
+isNothing (At i) = false
+isNothing Nothing = true
 
 module _ {A : Type 0} where
   -- the first that passes, of the values of the cells i, i + 1, ..

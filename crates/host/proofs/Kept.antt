@@ -1,20 +1,21 @@
 -- Each host byte and each stream keeps a sound world sound, and a refused call leaves all. Assumes nothing.
 use Prim.Native.Nat.{ℕ, _+_, _%_, _≤_, _<_}
 use mathlib.Core.Path.{_≡_, refl}
+use mathlib.Core.Bool.{Bool, true, false, cond, not}
 use mathlib.Core.List.{List, [], _∷_}
 use mathlib.Core.Logic.{_⊎_, inl, inr, ⊎-elim}
 use native.Mathlib.Omega.{arith}
 use lib.ListN.{length}
-use lib.Dec.{leb}
+use lib.Dec.{leb, eqb}
 use Rattle.reading.specs.Reading.{actionOf}
 use Rattle.reading.proofs.Rules.{action-small, settled-small, next-small, either}
-use Rattle.reading.proofs.Numbers.{counted-sound}
-use Rattle.screen.proofs.Kept.{choose-by}
+use Rattle.reading.proofs.Numbers.{sound-kept}
 use Rattle.terminal.specs.declared.Terminal.{Terminal}
 use Rattle.terminal.specs.State.{World, isGood, isSized, Good, Sound}
+use Rattle.terminal.specs.Refusals.{firstRefusal}
 use Rattle.terminal.proofs.Good.{sound-in}
 use Rattle.terminal.proofs.Kept.{sound-stated, acted-sound}
-use Rattle.host.specs.Streams.{actionFor, readOn, steppedBy, stepped, answerTo, Hosted, hosted, ran, fed}
+use Rattle.host.specs.Streams.{actionFor, readOn, steppedBy, stepped, answerTo, Hosted, hosted, fedOn, hostRefusal, fed}
 
 -- ---- one byte
 -- every action of a byte is one of the 62
@@ -29,7 +30,7 @@ read-good {rows} {t} g a b =
       place = g .place;
       pending-in = g .pending-in;
       reading-in = next-small a;
-      number-in = counted-sound (t .reading) a b (t .number) (g .number-in);
+      number-in = sound-kept a b (g .number-in);
     }
 
 module _ {rows : ℕ} {w : World} (s : Sound rows w) where
@@ -46,25 +47,34 @@ pub sound-by : {rows : ℕ} {u w : World} → u ≡ w → Sound rows w → Sound
 sound-by e s = rw e s
 
 -- ---- a stream
-pub ran-sound : {rows : ℕ} {w : World} → Sound rows w → (bytes : List ℕ) (taken sent : ℕ) (reply : List ℕ) → Sound rows (ran rows bytes taken sent w reply .world)
-unfolding ran
-ran-sound s [] taken sent reply = s
-ran-sound {rows} {w} s (b ∷ bs) taken sent reply =
+pub fedOn-sound : {rows : ℕ} {w : World} → Sound rows w → (bytes : List ℕ) (taken sent : ℕ) (reply : List ℕ) → Sound rows (fedOn rows bytes taken sent w reply .world)
+unfolding fedOn
+fedOn-sound s [] taken sent reply = s
+fedOn-sound {rows} {w} s (b ∷ bs) taken sent reply =
     either (λ (h : Hosted). Sound rows (h .world)) (leb (sent + length (answerTo b w)) (length reply))
-    (ran-sound (stepped-sound s b) bs (taken + 1) (sent + length (answerTo b w)) _) s
+    (fedOn-sound (stepped-sound s b) bs (taken + 1) (sent + length (answerTo b w)) _) s
+
+-- what a stream that is read has, and what a call refused with 1 or 2 has, any call has
+pub fed-by :
+    (P : Hosted → Type 0) (rows : ℕ) (w : World) (bytes reply : List ℕ) →
+    (isSized rows (w .chars) (w .attrs) ≡ true → isGood rows (w .state) ≡ true → P (fedOn rows bytes 0 0 w reply)) →
+    ((n : ℕ) → (n ≡ 1) ⊎ (n ≡ 2) → P (hosted n 0 0 w reply)) → P (fed rows w bytes reply)
+unfolding fed hostRefusal firstRefusal
+fed-by P rows w bytes reply read left = go (isSized rows (w .chars) (w .attrs)) (isGood rows (w .state)) read
+  where
+    go :
+        (s g : Bool) → (s ≡ true → g ≡ true → P (fedOn rows bytes 0 0 w reply)) →
+        P (cond (eqb (cond (not s) 1 (cond (not g) 2 0)) 0) (fedOn rows bytes 0 0 w reply) (hosted (cond (not s) 1 (cond (not g) 2 0)) 0 0 w reply))
+    go true true on = on refl refl
+    go true false on = left 2 (inr refl)
+    go false g on = left 1 (inl refl)
 
 pub fed-good : (rows : ℕ) (w : World) (bytes reply : List ℕ) → rows ≤ 96 → Good rows (w .state) → Good rows (fed rows w bytes reply .world .state)
-unfolding fed
 fed-good rows w bytes reply f g =
-    let P : Hosted → Type 0 = λ h. Good rows (h .world .state) in
-    choose-by P (isSized rows (w .chars) (w .attrs))
-    (λ s. choose-by P (isGood rows (w .state)) (λ t. ran-sound (sound-in f s t) bytes 0 0 reply .good) (λ _. g)) (λ _. g)
+    fed-by (λ (h : Hosted). Good rows (h .world .state)) rows w bytes reply (λ s t. fedOn-sound (sound-in f s t) bytes 0 0 reply .good) (λ _ _. g)
 
 pub fed-sound : {rows : ℕ} {w : World} → Sound rows w → (bytes reply : List ℕ) → Sound rows (fed rows w bytes reply .world)
-unfolding fed
-fed-sound {rows} {w} s bytes reply =
-    let P : Hosted → Type 0 = λ h. Sound rows (h .world) in
-    either P (isSized rows (w .chars) (w .attrs)) (either P (isGood rows (w .state)) (ran-sound s bytes 0 0 reply) s) s
+fed-sound {rows} {w} s bytes reply = fed-by (λ (h : Hosted). Sound rows (h .world)) rows w bytes reply (λ _ _. fedOn-sound s bytes 0 0 reply) (λ _ _. s)
 
 -- ---- a refused call leaves all
 pub record Unchanged (h : Hosted) (w : World) (reply : List ℕ) : Type 0 where
@@ -74,20 +84,15 @@ pub record Unchanged (h : Hosted) (w : World) (reply : List ℕ) : Type 0 where
   pub same-reply : h .reply ≡ reply
 
 -- a stream's number is 0 or 7
-pub ran-number : (rows : ℕ) (bytes : List ℕ) (taken sent : ℕ) (w : World) (reply : List ℕ) → (ran rows bytes taken sent w reply .number ≡ 0) ⊎ (ran rows bytes taken sent w reply .number ≡ 7)
-unfolding ran
-ran-number rows [] taken sent w reply = inl refl
-ran-number rows (b ∷ bs) taken sent w reply =
+pub fedOn-number : (rows : ℕ) (bytes : List ℕ) (taken sent : ℕ) (w : World) (reply : List ℕ) → (fedOn rows bytes taken sent w reply .number ≡ 0) ⊎ (fedOn rows bytes taken sent w reply .number ≡ 7)
+unfolding fedOn
+fedOn-number rows [] taken sent w reply = inl refl
+fedOn-number rows (b ∷ bs) taken sent w reply =
     either (λ (h : Hosted). (h .number ≡ 0) ⊎ (h .number ≡ 7)) (leb (sent + length (answerTo b w)) (length reply))
-    (ran-number rows bs (taken + 1) (sent + length (answerTo b w)) _ _) (inr refl)
+    (fedOn-number rows bs (taken + 1) (sent + length (answerTo b w)) _ _) (inr refl)
 
 pub fed-refused : (rows : ℕ) (w : World) (bytes reply : List ℕ) → (fed rows w bytes reply .number ≡ 1) ⊎ (fed rows w bytes reply .number ≡ 2) → Unchanged (fed rows w bytes reply) w reply
-unfolding fed
 fed-refused rows w bytes reply =
-    let P : Hosted → Type 0 = λ h. (h .number ≡ 1) ⊎ (h .number ≡ 2) → Unchanged h w reply in
-    let same : (n : ℕ) → Unchanged (hosted n 0 0 w reply) w reply = λ n. record { none-taken = refl; none-written = refl; same-world = refl; same-reply = refl } in
-    either P (isSized rows (w .chars) (w .attrs))
-    (either P (isGood rows (w .state))
-    (λ o. absurd (⊎-elim (λ z. ⊎-elim (λ a. omega arith) (λ a. omega arith) o) (λ z. ⊎-elim (λ a. omega arith) (λ a. omega arith) o) (ran-number rows bytes 0 0 w reply)))
-    (λ _. same 2))
-    (λ _. same 1)
+    fed-by (λ (h : Hosted). (h .number ≡ 1) ⊎ (h .number ≡ 2) → Unchanged h w reply) rows w bytes reply
+    (λ _ _ o. absurd (⊎-elim (λ z. ⊎-elim (λ a. omega arith) (λ a. omega arith) o) (λ z. ⊎-elim (λ a. omega arith) (λ a. omega arith) o) (fedOn-number rows bytes 0 0 w reply)))
+    (λ _ _ _. record { none-taken = refl; none-written = refl; same-world = refl; same-reply = refl })

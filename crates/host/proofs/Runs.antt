@@ -20,18 +20,18 @@ use Rattle.reading.specs.declared.Number.{Number}
 use Rattle.reading.specs.Action as Action
 use Rattle.reading.specs.Reading.{actionOf, actionAt, settled, counted, nextReading, clear}
 use Rattle.reading.proofs.Computed.{below, or-right}
-use Rattle.reading.proofs.Numbers.{sound-in}
 use Rattle.screen.specs.Page.{Page, page}
 use Rattle.screen.specs.Edits.{put, onward, typedFree, typed}
 use Rattle.terminal.specs.declared.Terminal.{Terminal}
 use Rattle.terminal.specs.State.{World, world, stated, placed, reread, pageOf, Sound}
 use Rattle.terminal.specs.Acts.{switched, steered, stamps, acted}
 use Rattle.terminal.proofs.Kept.{good-placed}
-use Rattle.host.specs.Streams.{actionFor, readOn, replyTo, steppedBy, ran}
-use Rattle.host.specs.Texts.{isText, typesFreely, Copied, inSequence, addressed}
+use Rattle.host.specs.Streams.{actionFor, readOn, replyTo, steppedBy, fedOn}
+use Rattle.host.specs.Texts.{isText, typesFreely, Copied}
+use Rattle.host.specs.Sequences.{inSequence, addressed}
 use Rattle.host.proofs.Answers.{reply-none}
 use Rattle.host.proofs.Kept.{sound-by, stepped-by-sound}
-use Rattle.host.proofs.Streams.{ran-turn}
+use Rattle.host.proofs.Streams.{fedOn-turn}
 
 -- ---- text in reading state 0
 text-at : (k : ℕ) → k < 128 → within 32 126 k ≡ true → actionAt 0 k ≡ Action.text
@@ -173,7 +173,7 @@ module _ (rows : ℕ) (bytes : List ℕ) (i at : ℕ) (w : World) (reply : List 
       (sym (done {f = letter} (none (sym e)) refl refl))
 
   cleared : w .state .number ≡ clear
-  cleared = sound-in (w .state .reading) (w .state .number) (s .good .number-in) .cleared (λ e. omega (arith, f .reads))
+  cleared = s .good .number-in .cleared (λ e. omega (arith, f .reads))
 
   module _ (n : ℕ) (h : first + n + 1 < rows * 80) where
     free-after : Free rows (after n .state)
@@ -197,28 +197,28 @@ module _ (rows : ℕ) (bytes : List ℕ) (i at : ℕ) (w : World) (reply : List 
         (sym (done (up (patched {f = letter} refl (omega (arith, s .chars-long))) (omega arith) (omega (arith, s .chars-long)) v (omega arith)) refl refl)
         ∙ ap (λ (m : ℕ). set (patch (w .chars) first (first + n) letter) m (getD bytes (i + n) 0 % 128)) (sym k))
 
-    after-turn : i + n < length bytes → isText (getD bytes (i + n) 0) ≡ true → ran rows (drop (i + suc n) bytes) (i + suc n) at (after (suc n)) reply ≡ ran rows (drop (i + n) bytes) (i + n) at (after n) reply
+    after-turn : i + n < length bytes → isText (getD bytes (i + n) 0) ≡ true → fedOn rows (drop (i + suc n) bytes) (i + suc n) at (after (suc n)) reply ≡ fedOn rows (drop (i + n) bytes) (i + n) at (after n) reply
     unfolding replyTo
     after-turn l e =
         let m : i + suc n ≡ i + n + 1 = omega arith in
-        ap (λ (j : ℕ). ran rows (drop j bytes) j at (after (suc n)) reply) m
-        ∙ ran-turn rows bytes (i + n) at (after n) reply l (sym (text-action (after n .state) (getD bytes (i + n) 0) (f .reads) e))
+        ap (λ (j : ℕ). fedOn rows (drop j bytes) j at (after (suc n)) reply) m
+        ∙ fedOn-turn rows bytes (i + n) at (after n) reply l (sym (text-action (after n .state) (getD bytes (i + n) 0) (f .reads) e))
         (omega arith) (omega arith) (after-next ∙ text-stepped rows (after n) free-after cleared (getD bytes (i + n) 0)) (sym (written-none reply at))
 
-  text-ran : (n : ℕ) → first + n < rows * 80 → i + n ≤ length bytes → ((j : ℕ) → j < n → isText (getD bytes (i + j) 0) ≡ true) → ran rows (drop (i + n) bytes) (i + n) at (after n) reply ≡ ran rows (drop i bytes) i at w reply
-  text-ran zero h l texts =
+  text-fedOn : (n : ℕ) → first + n < rows * 80 → i + n ≤ length bytes → ((j : ℕ) → j < n → isText (getD bytes (i + j) 0) ≡ true) → fedOn rows (drop (i + n) bytes) (i + n) at (after n) reply ≡ fedOn rows (drop i bytes) i at w reply
+  text-fedOn zero h l texts =
       let e : i + 0 ≡ i = omega arith in
-      ap₂ (λ (j : ℕ) (v : World). ran rows (drop j bytes) j at v reply) e after-none
-  text-ran (suc n) h l texts =
+      ap₂ (λ (j : ℕ) (v : World). fedOn rows (drop j bytes) j at v reply) e after-none
+  text-fedOn (suc n) h l texts =
       after-turn n (omega arith) (omega arith) (texts n (omega arith))
-      ∙ text-ran n (omega arith) (omega arith) (λ j m. texts j (omega arith))
+      ∙ text-fedOn n (omega arith) (omega arith) (λ j m. texts j (omega arith))
 
   -- the copy leaves a sound world, from which the bytes after it leave what all leave from before it
-  pub text-turn : {n : ℕ} {left : List ℕ} {c : Cursor} → Copied bytes i (w .chars) first n left → c ≡ atCell (w .state .cursor) (first + n) → Sound rows (world (placed (w .state) c) left (w .attrs)) × (ran rows (drop (i + n) bytes) (i + n) at (world (placed (w .state) c) left (w .attrs)) reply ≡ ran rows (drop i bytes) i at w reply)
+  pub text-turn : {n : ℕ} {left : List ℕ} {c : Cursor} → Copied bytes i (w .chars) first n left → c ≡ atCell (w .state .cursor) (first + n) → Sound rows (world (placed (w .state) c) left (w .attrs)) × (fedOn rows (drop (i + n) bytes) (i + n) at (world (placed (w .state) c) left (w .attrs)) reply ≡ fedOn rows (drop i bytes) i at w reply)
   text-turn {n} {left} {c} d p =
       let h : first + n < rows * 80 = omega (arith, d .cells-upto, s .chars-long) in
       let e : world (placed (w .state) c) left (w .attrs) ≡ after n = ap₂ (λ (c : Cursor) (xs : List ℕ). world (placed (w .state) c) xs (w .attrs)) p (d .cells) in
-      (sound-by e (after-sound n h), ap (λ (v : World). ran rows (drop (i + n) bytes) (i + n) at v reply) e ∙ text-ran n h (d .bytes-upto) (d .texts))
+      (sound-by e (after-sound n h), ap (λ (v : World). fedOn rows (drop (i + n) bytes) (i + n) at v reply) e ∙ text-fedOn n h (d .bytes-upto) (d .texts))
 
 -- ---- the actions of a sequence
 at-one : (P : ℕ → Type 0) {a : ℕ} (k : ℕ) → k ≤ a → P k → (suc k ≤ a → P a) → P a
@@ -257,7 +257,7 @@ module _ (rows a v : ℕ) (w : World) where
   unsent e = reply-none a w (λ q. not-both e (ap inSequence q)) (λ q. not-both e (ap inSequence q))
 
 -- such an action leaves a sound world, from which the bytes after it leave what all leave from before it
-pub sequence-turn : (rows : ℕ) (bytes : List ℕ) (i at : ℕ) (w : World) (reply : List ℕ) → Sound rows w → at ≤ length reply → i < length bytes → {a : ℕ} → a ≡ actionFor (w .state) (getD bytes i 0) → inSequence a ≡ true → {c : Cursor} {r : ℕ} {n : Number} → c ≡ addressed rows a (w .state .number) (w .state .cursor) → r ≡ nextReading a → n ≡ counted a (getD bytes i 0 % 128) (w .state .number) → let u = world (reread (placed (w .state) c) r n) (w .chars) (w .attrs) in Sound rows u × (ran rows (drop (i + 1) bytes) (i + 1) at u reply ≡ ran rows (drop i bytes) i at w reply)
+pub sequence-turn : (rows : ℕ) (bytes : List ℕ) (i at : ℕ) (w : World) (reply : List ℕ) → Sound rows w → at ≤ length reply → i < length bytes → {a : ℕ} → a ≡ actionFor (w .state) (getD bytes i 0) → inSequence a ≡ true → {c : Cursor} {r : ℕ} {n : Number} → c ≡ addressed rows a (w .state .number) (w .state .cursor) → r ≡ nextReading a → n ≡ counted a (getD bytes i 0 % 128) (w .state .number) → let u = world (reread (placed (w .state) c) r n) (w .chars) (w .attrs) in Sound rows u × (fedOn rows (drop (i + 1) bytes) (i + 1) at u reply ≡ fedOn rows (drop i bytes) i at w reply)
 unfolding steppedBy readOn
 sequence-turn rows bytes i at w reply s fits l {a} e among {c} {r} {n} o p q =
     let b = getD bytes i 0 in
@@ -267,4 +267,4 @@ sequence-turn rows bytes i at w reply s fits l {a} e among {c} {r} {n} o p q =
     ap (λ (d : Cursor). world (reread (placed (w .state) d) r n) (w .chars) (w .attrs)) o
     ∙ ap₂ (λ (r : ℕ) (n : Number). world (reread (placed (w .state) (addressed rows a (w .state .number) (w .state .cursor))) r n) (w .chars) (w .attrs)) p q
     ∙ sym (ap (λ (v : World). stated v (readOn a (b % 128) (v .state))) (addresses rows a (b % 128) w among)) in
-    (sound-by same (stepped-by-sound s a b), ran-turn rows bytes i at w reply l e (omega arith) (omega arith) same (sym (ap (written reply at) none-sent ∙ written-none reply at)))
+    (sound-by same (stepped-by-sound s a b), fedOn-turn rows bytes i at w reply l e (omega arith) (omega arith) same (sym (ap (written reply at) none-sent ∙ written-none reply at)))

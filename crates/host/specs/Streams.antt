@@ -1,6 +1,6 @@
 -- Host streams (document 01, 'Reading host bytes' and 'Replies'): one byte's step, what it sends, and a stream of bytes. Assumes nothing.
 use Prim.Native.Nat.{ℕ, _+_, _-_, _%_}
-use mathlib.Core.Bool.{cond}
+use mathlib.Core.Bool.{cond, not}
 use mathlib.Core.List.{List, [], _∷_}
 use lib.ListN.{length}
 use lib.Dec.{leb, eqb}
@@ -11,6 +11,7 @@ use Rattle.replies.specs.Replies.{cursorReply, statusReply, blockReply}
 use Rattle.terminal.specs.declared.Terminal.{Terminal}
 use Rattle.terminal.specs.State.{World, world, stated, reread, isGood, isSized}
 use Rattle.terminal.specs.Acts.{acted}
+use Rattle.terminal.specs.Refusals.{_when_, firstRefusal}
 use Rattle.host.specs.declared.HostAnswer.{HostAnswer}
 
 -- the action of a byte
@@ -62,15 +63,19 @@ abbrev pub hostLeft : HostAnswer → List ℕ → List ℕ → List ℕ → Host
 hostLeft r chars attrs reply = hosted (r .number) (r .taken) (r .written) (world (r .state) chars attrs) reply
 
 -- byte by byte, `taken` and `sent` so far; 7 stops before the byte whose reply does not fit
-unfoldable pub ran : ℕ → List ℕ → ℕ → ℕ → World → List ℕ → Hosted
-ran rows [] taken sent w reply = hosted 0 taken sent w reply
-ran rows (b ∷ bs) taken sent w reply =
+unfoldable pub fedOn : ℕ → List ℕ → ℕ → ℕ → World → List ℕ → Hosted
+fedOn rows [] taken sent w reply = hosted 0 taken sent w reply
+fedOn rows (b ∷ bs) taken sent w reply =
     let bytes = answerTo b w in
-    cond (leb (sent + length bytes) (length reply)) (ran rows bs (taken + 1) (sent + length bytes) (stepped rows b w) (written reply sent bytes))
+    cond (leb (sent + length bytes) (length reply)) (fedOn rows bs (taken + 1) (sent + length bytes) (stepped rows b w) (written reply sent bytes))
     (hosted 7 taken sent w reply)
 
+-- streams test 1 and 2 first
+unfoldable pub hostRefusal : ℕ → World → ℕ
+hostRefusal rows w = firstRefusal ((1 when not (isSized rows (w .chars) (w .attrs))) ∷ (2 when not (isGood rows (w .state))) ∷ [])
+
+-- 1 and 2 leave all
 unfoldable pub fed : ℕ → World → List ℕ → List ℕ → Hosted
 fed rows w bytes reply =
-    cond (isSized rows (w .chars) (w .attrs))
-    (cond (isGood rows (w .state)) (ran rows bytes 0 0 w reply) (hosted 2 0 0 w reply))
-    (hosted 1 0 0 w reply)
+    let n = hostRefusal rows w in
+    cond (eqb n 0) (fedOn rows bytes 0 0 w reply) (hosted n 0 0 w reply)

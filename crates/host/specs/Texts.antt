@@ -1,16 +1,13 @@
--- The two shorter ways through a stream: a run of text that is copied at once, and the bytes of a sequence. Assumes nothing.
+-- Only proofs and inner contracts need this: a run of text that is copied at once, the one shorter way through a stream. Assumes nothing.
 use Prim.Native.Nat.{ℕ, _+_, _-_, _*_, _%_, _≤_, _<_}
 use mathlib.Core.Path.{_≡_}
-use mathlib.Core.Bool.{Bool, true, cond, _&&_, _||_, not}
+use mathlib.Core.Bool.{Bool, true, _&&_, not}
 use mathlib.Core.List.{List}
 use lib.ListN.{length, getD}
-use lib.Dec.{eqb, leb, ltb}
+use lib.Dec.{eqb, ltb}
 use Rattle.cells.specs.Memory.{patch}
-use Rattle.cursor.specs.declared.Cursor.{Cursor}
 use Rattle.cursor.specs.Cursor.{cellOf}
-use Rattle.cursor.specs.Addressing.{toColumn, toRow, toWindowRow}
 use Rattle.cells.specs.Range.{within}
-use Rattle.reading.specs.declared.Number.{Number}
 use Rattle.reading.specs.Action as Action
 use Rattle.terminal.specs.declared.Terminal.{Terminal}
 
@@ -30,15 +27,3 @@ pub record Copied (bytes : List ℕ) (from : ℕ) (chars : List ℕ) (cell n : �
   pub cells-upto : cell + n < length chars
   pub texts : (j : ℕ) → j < n → isText (getD bytes (from + j) 0) ≡ true
   pub cells : left ≡ patch chars cell (cell + n) (λ k. getD bytes (from + (k - cell)) 0 % 128)
-
--- the actions of a sequence, ESC & a with its numbers among them, and `rest`: they change the cursor, the reading state and the number alone, and send nothing
-unfoldable pub inSequence : ℕ → Bool
-inSequence a = leb a Action.esc || within Action.toGroup Action.stay a
-
--- the cursor after one of them
-unfoldable pub addressed : ℕ → ℕ → Number → Cursor → Cursor
-addressed rows a n c =
-    cond (within Action.columnOn Action.columnEnd a) (toColumn (n .sign) (n .value) c)
-    (cond (within Action.rowOn Action.rowEnd a) (toRow rows (n .sign) (n .value) c)
-    (cond (within Action.windowOn Action.windowEnd a) (toWindowRow rows (n .sign) (n .value) c)
-    c))

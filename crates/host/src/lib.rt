@@ -5,11 +5,11 @@ ghost use mathlib.Core.Bool.{true};
 ghost use lib.ListN.{length, getD, drop};
 ghost use Rattle.cells.specs.Memory.{written};
 ghost use Rattle.cursor.specs.Cursor.{InPlace};
-ghost use Rattle.reading.specs.Reading.{Tabled, soundNumber};
+ghost use Rattle.reading.specs.Reading.{Tabled, SoundNumber};
 ghost use Rattle.terminal.specs.State.{world, Sound};
-ghost use Rattle.host.specs.Streams.{actionFor, readOn, steppedBy, pendingReply, replyTo, hostLeft, ran, fed};
-ghost use Rattle.host.specs.Texts.{isText, typesFreely, Copied, inSequence, addressed};
-ghost use Rattle.host.specs.Sequences.{followed};
+ghost use Rattle.host.specs.Streams.{actionFor, readOn, steppedBy, pendingReply, replyTo, hostLeft, fedOn, fed};
+ghost use Rattle.host.specs.Texts.{isText, typesFreely, Copied};
+ghost use Rattle.host.specs.Sequences.{inSequence, addressed, followed};
 use cursor::Cursor;
 use reading::Number;
 use terminal::Terminal;
@@ -189,7 +189,7 @@ fn follow(
     bytes: &[u8],
     from: usize,
 ) -> Reader
-    requires { ⌜ (rows ≤ 96) × (s < 7) × (soundNumber s n ≡ true) × (from ≤ length (now bytes)) ⌝ ∗ ⌜ InPlace rows c ⌝ ∗ ⌜ Tabled (now table) ⌝ }
+    requires { ⌜ (rows ≤ 96) × (s < 7) × (from ≤ length (now bytes)) ⌝ ∗ ⌜ SoundNumber s n ⌝ ∗ ⌜ InPlace rows c ⌝ ∗ ⌜ Tabled (now table) ⌝ }
     ensures { λ r. ⌜ r ≡ followed rows (drop from (now (bytes .entry))) c n s from ⌝ }
 {
     let mut cursor = c;
@@ -259,7 +259,7 @@ fn copy_text(chars: &mut [u8], bytes: &[u8], from: usize, cell: usize) -> usize
 }
 
 // The bytes, up to the one whose reply does not fit.
-fn run(
+fn feed_on(
     t: Terminal,
     rows: usize,
     chars: &mut [u8],
@@ -268,7 +268,7 @@ fn run(
     reply: &mut [u8],
 ) -> HostAnswer
     requires { ⌜ Sound rows (world t (now chars) (now attrs)) ⌝ }
-    ensures { λ r. ⌜ hostLeft r (now (chars .exit)) (now (attrs .exit)) (now (reply .exit)) ≡ ran rows (now (bytes .entry)) 0 0 (world t (now (chars .entry)) (now (attrs .entry))) (now (reply .entry)) ⌝ }
+    ensures { λ r. ⌜ hostLeft r (now (chars .exit)) (now (attrs .exit)) (now (reply .exit)) ≡ fedOn rows (now (bytes .entry)) 0 0 (world t (now (chars .entry)) (now (attrs .entry))) (now (reply .entry)) ⌝ }
 {
     let table = reading::actions();
     let mut u = t;
@@ -315,7 +315,7 @@ fn run(
 }
 
 // Host bytes, in a memory of `rows` rows.
-pub fn host_on(
+fn host_on(
     t: Terminal,
     rows: usize,
     chars: &mut [u8],
@@ -342,7 +342,7 @@ pub fn host_on(
             state: t,
         };
     }
-    run(t, rows, chars, attrs, bytes, reply)
+    feed_on(t, rows, chars, attrs, bytes, reply)
 }
 
 // Host bytes. Takes any state, any buffers and any bytes; 1 and 2 change nothing, 7 stops before the byte whose reply does not fit.

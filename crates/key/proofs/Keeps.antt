@@ -15,7 +15,16 @@ use Rattle.terminal.specs.declared.Terminal.{Terminal}
 use Rattle.terminal.specs.State.{World, placed, moded}
 use Rattle.terminal.specs.Acts.{switched, steered, stamps, acted}
 use Rattle.key.specs.Keys.{keyAction, enter, keyRefusal, Keyed, keyDone, keyed}
-use Rattle.key.specs.Keeps.{Keeps}
+
+-- t before the key, u after it: format mode, host lock, the reading state and its number, and the tab stops stay; so does the pending transfer, unless the key
+-- is ENTER
+pub record Keeps (code : ℕ) (t u : Terminal) : Type 0 where
+  pub format-stays : u .format ≡ t .format
+  pub lock-stays : u .lock ≡ t .lock
+  pub reading-stays : u .reading ≡ t .reading
+  pub number-stays : u .number ≡ t .number
+  pub tabs-stay : u .tabs ≡ t .tabs
+  pub pending-stays : (code ≡ enter → ⊥) → u .pending ≡ t .pending
 
 -- the cursor, insert mode, and with ENTER the pending transfer may be others
 set-keeps : {code : ℕ} (t : Terminal) (c : Cursor) (insert : Bool) (pending : ℕ) → ((code ≡ enter → ⊥) → pending ≡ t .pending) → Keeps code t (moded (placed t c) (t .format) insert (t .lock) pending)

@@ -1,30 +1,28 @@
 -- A key keeps a good state good; a refused key leaves all, and one that is not refused finds a sound world. Assumes nothing.
 use Prim.Native.Nat.{ℕ, _%_, _≤_, _<_}
 use mathlib.Core.Path.{_≡_, refl}
-use mathlib.Core.Bool.{Bool, true, false, cond}
+use mathlib.Core.Bool.{false, _&&_, not}
 use mathlib.Core.List.{List}
 use native.Mathlib.Omega.{arith}
 use lib.ListN.{length, drop, length-set}
 use lib.Seq.{drop-set-lt}
 use lib.Dec.{ltb, eqb}
-use borrow.Author.Tests.{eqb-true, eqb-false, ltb-false}
+use borrow.Author.Tests.{eqb-true, eqb-false, eq-eqb, ltb-false, not-false}
+use Rattle.cells.specs.Search.{isNothing}
+use Rattle.cells.specs.Range.{within}
+use Rattle.cursor.specs.Cursor.{cellOf}
+use Rattle.fields.specs.Fields.{marks, target}
 use Rattle.reading.specs.Action as Action
 use Rattle.reading.proofs.Rules.{either}
 use Rattle.screen.proofs.Kept.{choose-by}
 use Rattle.terminal.specs.State.{World, isGood, isSized, barred, Good, Sound}
+use Rattle.terminal.specs.Refusals.{firstRefusal}
+use Rattle.terminal.proofs.Refusals.{passed}
 use Rattle.terminal.proofs.Good.{sound-in}
 use Rattle.terminal.proofs.Kept.{acted-sound}
-use Rattle.key.specs.Keys.{keyAction, enter, keyRefusal, Keyed, keyDone, keyed}
+use Rattle.key.specs.Keys.{keyAction, enter, disallows, keyRefusal, Keyed, keyDone, keyed}
 
--- ---- a chain of tests that came to 0 passed each of them
-passed : {a n : ℕ} (t : Bool) → (n ≡ 0 → ⊥) → cond t a n ≡ 0 → (t ≡ true) × (a ≡ 0)
-passed true h e = (refl, e)
-passed false h e = absurd (h e)
-
-failed : {a n : ℕ} (t : Bool) → (n ≡ 0 → ⊥) → cond t n a ≡ 0 → (t ≡ false) × (a ≡ 0)
-failed true h e = absurd (h e)
-failed false h e = (refl, e)
-
+-- ---- a key that is not refused
 pub record KeyReady (rows : ℕ) (w : World) (code room : ℕ) : Type 0 where
   pub sound : Sound rows w
   pub listed : keyAction code (w .state .insert) ≡ Action.rest → ⊥
@@ -32,17 +30,23 @@ pub record KeyReady (rows : ℕ) (w : World) (code room : ℕ) : Type 0 where
   pub room-in : code ≡ 273 → 0 < room
 
 pub key-ready : (rows : ℕ) (w : World) (code room : ℕ) → rows ≤ 96 → keyRefusal rows w code room ≡ 0 → KeyReady rows w code room
-unfolding keyRefusal
+unfolding keyRefusal firstRefusal
 key-ready rows w code room f e =
-    let s = passed (isSized rows (w .chars) (w .attrs)) (λ z. omega arith) e in
-    let g = passed (isGood rows (w .state)) (λ z. omega arith) (s .1) in
-    let a = failed (eqb (keyAction code (w .state .insert)) Action.rest) (λ z. omega arith) (g .1) in
-    let b = failed (barred (w .state)) (λ z. omega arith) (a .1) in
+    let ms = marks (w .attrs) in
+    let to = target ms (cellOf (w .state .cursor)) in
+    let aims = within 32 126 code && w .state .format in
+    let s = passed (not (isSized rows (w .chars) (w .attrs))) (λ z. omega arith) e in
+    let g = passed (not (isGood rows (w .state))) (λ z. omega arith) (s .1) in
+    let a = passed (eqb (keyAction code (w .state .insert)) Action.rest) (λ z. omega arith) (g .1) in
+    let b = passed (barred (w .state)) (λ z. omega arith) (a .1) in
+    let n = passed (aims && isNothing to) (λ z. omega arith) (b .1) in
+    let d = passed (aims && disallows ms code to) (λ z. omega arith) (n .1) in
+    let r = passed (eqb code enter && ltb room 1) (λ z. omega arith) (d .1) in
     record {
-      sound = sound-in f (s .0) (g .0);
+      sound = sound-in f (not-false _ (s .0)) (not-false _ (g .0));
       listed = eqb-false _ _ (a .0);
       unbarred = b .0;
-      room-in = λ h. let r = failed (ltb room 1) (λ z. omega arith) (rw h at (b .1)) in omega (arith, ltb-false room 1 (r .0));
+      room-in = λ h. let l = rw (eq-eqb code 273 h) at (r .0) in omega (arith, ltb-false room 1 l);
     }
 
 -- ---- a good state stays good, a sound world sound

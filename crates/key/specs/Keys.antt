@@ -1,17 +1,19 @@
 -- Keys (document 01, 'Keys and posts'): what a key does, and the number that it answers. Assumes nothing.
 use Prim.Native.Nat.{ℕ, _%_}
-use mathlib.Core.Bool.{Bool, cond}
-use mathlib.Core.List.{List}
+use mathlib.Core.Bool.{Bool, false, cond, _&&_, not}
+use mathlib.Core.List.{List, [], _∷_}
 use lib.ListN.{length, set}
 use lib.Dec.{ltb, eqb}
 use Rattle.cells.specs.declared.Found.{Found}
 use Rattle.cells.specs.declared.Found.the-variants.{At, Nothing}
+use Rattle.cells.specs.Search.{isNothing}
 use Rattle.cursor.specs.Cursor.{cellOf}
 use Rattle.cells.specs.Range.{within}
 use Rattle.fields.specs.Fields.{marks, kindAt, target, allowed}
 use Rattle.reading.specs.Action as Action
 use Rattle.terminal.specs.State.{World, world, isGood, isSized, barred}
 use Rattle.terminal.specs.Acts.{acted}
+use Rattle.terminal.specs.Refusals.{_when_, firstRefusal}
 use Rattle.key.specs.declared.KeyAnswer.{KeyAnswer}
 
 -- the action of each listed code, that of its host byte: 266 changes insert mode over, 273 is ENTER; `rest` for a code not listed
@@ -41,22 +43,26 @@ keyAction code insert =
 abbrev pub enter : ℕ
 enter = 273
 
--- a text key with format on: 5 no target, 6 a character not allowed by the target's field
-abbrev pub textRefusal : ℕ → List ℕ → Found → ℕ
-textRefusal v ms (At k) = cond (allowed (kindAt ms k) v) 0 6
-textRefusal v ms Nothing = 5
+-- the field of the target does not allow the character
+unfoldable pub disallows : List ℕ → ℕ → Found → Bool
+disallows ms v (At cell) = not (allowed (kindAt ms cell) v)
+disallows ms v Nothing = false
 
--- the number of a key, tested in the order 1, 2, 3, 4, 5, 6, 7; 0 where it is done
+-- keys test 1, 2, 3, 4, 5, 6, 7; 5 and 6 are for text keys with format on, which go to the target
 unfoldable pub keyRefusal : ℕ → World → ℕ → ℕ → ℕ
 keyRefusal rows w code room =
-    cond (isSized rows (w .chars) (w .attrs))
-    (cond (isGood rows (w .state))
-    (cond (eqb (keyAction code (w .state .insert)) Action.rest) 3
-    (cond (barred (w .state)) 4
-    (cond (within 32 126 code)
-    (cond (w .state .format) (textRefusal code (marks (w .attrs)) (target (marks (w .attrs)) (cellOf (w .state .cursor)))) 0)
-    (cond (eqb code enter) (cond (ltb room 1) 7 0) 0))))
-    2) 1
+    let ms = marks (w .attrs) in
+    let found = target ms (cellOf (w .state .cursor)) in
+    let aims = within 32 126 code && w .state .format in
+    firstRefusal
+    ((1 when not (isSized rows (w .chars) (w .attrs)))
+    ∷ (2 when not (isGood rows (w .state)))
+    ∷ (3 when eqb (keyAction code (w .state .insert)) Action.rest)
+    ∷ (4 when barred (w .state))
+    ∷ (5 when (aims && isNothing found))
+    ∷ (6 when (aims && disallows ms code found))
+    ∷ (7 when (eqb code enter && ltb room 1))
+    ∷ [])
 
 -- what a key call leaves: its answer and the three buffers
 pub record Keyed : Type 0 where

@@ -5,7 +5,8 @@ ghost use lib.ListN.{length};
 ghost use Rattle.cells.specs.Range.{within};
 ghost use Rattle.fields.specs.Fields.{marks, target};
 ghost use Rattle.terminal.specs.State.{world, Sound};
-ghost use Rattle.key.specs.Keys.{keyAction, textRefusal, keyRefusal, keyLeft, keyDone, keyed};
+ghost use Rattle.key.specs.Keys.{keyAction, keyRefusal, keyLeft, keyDone, keyed};
+ghost use Rattle.key.specs.Aim.{aimRefusal};
 use cells::Found;
 use terminal::Terminal;
 
@@ -60,7 +61,7 @@ fn action_of(code: u16, insert: bool) -> u8
 // The number of a text key with format on.
 fn refuse_text(attrs: &[u8], cell: usize, v: u8) -> u8
     requires { ⌜ cell < length (now attrs) ⌝ }
-    ensures { λ r. ⌜ r ≡ textRefusal v (marks (now (attrs .entry))) (target (marks (now (attrs .entry))) cell) ⌝ }
+    ensures { λ r. ⌜ r ≡ aimRefusal v (marks (now (attrs .entry))) (target (marks (now (attrs .entry))) cell) ⌝ }
 {
     let to = fields::find_target(attrs, cell);
     match to {
@@ -133,7 +134,7 @@ fn do_key(
 }
 
 // A key, in a memory of `rows` rows.
-pub fn key_on(
+fn key_on(
     t: Terminal,
     rows: usize,
     chars: &mut [u8],

@@ -2,28 +2,32 @@
 -- Assumes nothing.
 use Prim.Native.Nat.{ℕ, _-_, _*_, _≤_, _<_}
 use mathlib.Core.Path.{_≡_, refl, ap, sym, _∙_}
-use mathlib.Core.Bool.{true, false}
+use mathlib.Core.Logic.{inl, inr}
+use mathlib.Core.Bool.{true, false, not}
 use mathlib.Core.List.{List}
 use native.Mathlib.Omega.{arith}
 use lib.ListN.{length}
-use lib.Dec.{ltb}
-use borrow.Author.Tests.{ltb-false, le-ltb}
+use lib.Dec.{ltb, eqb}
+use borrow.Author.Tests.{eqb-true, ne-eqb, ltb-false, le-ltb, not-false}
 use Rattle.cells.specs.declared.Found.{Found}
 use Rattle.cells.specs.declared.Found.the-variants.{At, Nothing}
-use Rattle.cells.specs.Memory.{posted}
+use Rattle.cells.proofs.Patch.{eq-or}
 use Rattle.cells.proofs.Splice.{length-posted}
 use Rattle.fields.specs.Fields.{marks, kindAt, fieldEnd, nthField}
 use Rattle.fields.proofs.Marks.{length-marks}
 use Rattle.fields.proofs.Fields.{field-ends, end-inside}
 use Rattle.fields.proofs.Starts.{nth-open}
 use Rattle.screen.proofs.Kept.{choose-by}
-use Rattle.terminal.specs.State.{World, world, isGood, isSized, barred, Good, Sound}
+use Rattle.terminal.specs.State.{World, isGood, isSized, barred, Good, Sound}
+use Rattle.terminal.specs.Refusals.{firstRefusal}
+use Rattle.terminal.proofs.Refusals.{passed}
 use Rattle.terminal.proofs.Good.{sound-in}
-use Rattle.post.specs.Posts.{Posted, refused, allFit, postedAt, postedTo}
+use Rattle.post.specs.Posts.{Posted, allFit, tooLong, misfits, postRefusal, postedAt, postedTo}
+use Rattle.post.specs.Field.{fieldRefusal, postedIn}
 
 -- what a post into the field that starts at cell k leaves
 unfoldable pub done : World → List ℕ → ℕ → Posted
-done w text k = record { number = 0; world = world (w .state) (posted (w .chars) k (fieldEnd (marks (w .attrs)) k) text) (w .attrs) }
+done w text k = record { number = 0; world = postedAt w text (At k) }
 
 -- the first four tests of a post pass
 pub record PostOpen (rows : ℕ) (w : World) : Type 0 where
@@ -32,37 +36,18 @@ pub record PostOpen (rows : ℕ) (w : World) : Type 0 where
   pub unbarred : barred (w .state) ≡ false
   pub formatted : w .state .format ≡ true
 
--- the last two pass
-pub at-field : (w : World) (text : List ℕ) (k : ℕ) → length text ≤ fieldEnd (marks (w .attrs)) k - k → allFit (kindAt (marks (w .attrs)) k) text ≡ true → postedAt w text (At k) ≡ done w text k
-unfolding postedAt done
-at-field w text k l a = rw (le-ltb (fieldEnd (marks (w .attrs)) k - k) (length text) l, a)
-
--- what a post that is refused has, and what one that is done has, any post has
-module _ (P : Posted → Type 0) (w : World) (text : List ℕ) (left : (n : ℕ) → (n ≡ 0 → ⊥) → P (refused n w)) where
-  by-field : (f : Found) → ((k : ℕ) → f ≡ At k → length text ≤ fieldEnd (marks (w .attrs)) k - k → allFit (kindAt (marks (w .attrs)) k) text ≡ true → P (done w text k)) → P (postedAt w text f)
-  unfolding postedAt done
-  by-field (At k) go =
-      choose-by P (ltb (fieldEnd (marks (w .attrs)) k - k) (length text)) (λ _. left 10 (λ z. omega arith))
-      (λ l. choose-by P (allFit (kindAt (marks (w .attrs)) k) text) (λ a. go k refl (ltb-false _ _ l) a) (λ _. left 6 (λ z. omega arith)))
-  by-field Nothing go = left 9 (λ z. omega arith)
-
-  by-tests : (rows field : ℕ) → (PostOpen rows w → P (postedAt w text (nthField (marks (w .attrs)) field))) → P (postedTo rows w field text)
-  unfolding postedTo
-  by-tests rows field go =
-      choose-by P (isSized rows (w .chars) (w .attrs))
-      (λ s. choose-by P (isGood rows (w .state))
-      (λ g. choose-by P (barred (w .state)) (λ _. left 4 (λ z. omega arith))
-      (λ b. choose-by P (w .state .format) (λ f. go (record { sized = s; good = g; unbarred = b; formatted = f })) (λ _. left 8 (λ z. omega arith))))
-      (λ _. left 2 (λ z. omega arith)))
-      (λ _. left 1 (λ z. omega arith))
-
 -- ---- a post that passes the first four tests goes by its field
-pub post-open : {rows : ℕ} {w : World} → PostOpen rows w → (field : ℕ) (text : List ℕ) → postedTo rows w field text ≡ postedAt w text (nthField (marks (w .attrs)) field)
-unfolding postedTo
+pub post-open : {rows : ℕ} {w : World} → PostOpen rows w → (field : ℕ) (text : List ℕ) → postedTo rows w field text ≡ postedIn w text (nthField (marks (w .attrs)) field)
+unfolding postedTo postRefusal postedIn fieldRefusal firstRefusal
 post-open o field text = rw (o .sized, o .good, o .unbarred, o .formatted)
 
-pub post-found : {rows : ℕ} {w : World} → PostOpen rows w → (field : ℕ) (text : List ℕ) {f : Found} {p : Posted} → nthField (marks (w .attrs)) field ≡ f → p ≡ postedAt w text f → p ≡ postedTo rows w field text
-post-found {rows} {w} o field text e q = q ∙ sym (post-open o field text ∙ ap (postedAt w text) e)
+pub post-found : {rows : ℕ} {w : World} → PostOpen rows w → (field : ℕ) (text : List ℕ) {f : Found} {p : Posted} → nthField (marks (w .attrs)) field ≡ f → p ≡ postedIn w text f → p ≡ postedTo rows w field text
+post-found {rows} {w} o field text e q = q ∙ sym (post-open o field text ∙ ap (postedIn w text) e)
+
+-- the last two pass
+pub at-field : (w : World) (text : List ℕ) (k : ℕ) → length text ≤ fieldEnd (marks (w .attrs)) k - k → allFit (kindAt (marks (w .attrs)) k) text ≡ true → postedIn w text (At k) ≡ done w text k
+unfolding postedIn fieldRefusal firstRefusal tooLong misfits done
+at-field w text k l a = rw (le-ltb (fieldEnd (marks (w .attrs)) k - k) (length text) l, a)
 
 -- ---- a post that is not refused: all its tests passed, and this is what it leaves
 pub record PostReady (rows : ℕ) (w : World) (field : ℕ) (text : List ℕ) : Type 0 where
@@ -73,36 +58,70 @@ pub record PostReady (rows : ℕ) (w : World) (field : ℕ) (text : List ℕ) : 
   pub found : nthField (marks (w .attrs)) field ≡ At start
   pub short : length text ≤ fieldEnd (marks (w .attrs)) start - start
   pub fit : allFit (kindAt (marks (w .attrs)) start) text ≡ true
-  pub left : postedTo rows w field text ≡ done w text start
+  pub leaves : postedTo rows w field text ≡ done w text start
 
 module _ (rows : ℕ) (w : World) (field : ℕ) (text : List ℕ) where
-  pub post-ready : rows ≤ 96 → postedTo rows w field text .number ≡ 0 → PostReady rows w field text
-  post-ready few =
-      by-tests (λ (p : Posted). p .number ≡ 0 → PostReady rows w field text) w text (λ n h e. absurd (h e)) rows field
-      (λ o. by-field (λ (p : Posted). p .number ≡ 0 → PostReady rows w field text) w text (λ n h e. absurd (h e)) (nthField (marks (w .attrs)) field)
-      (λ k e l a _. record {
+  pub post-number : postedTo rows w field text .number ≡ postRefusal rows w field text
+  unfolding postedTo
+  post-number = refl
+
+  -- by the field found
+  ready-at : rows ≤ 96 → PostOpen rows w → (f : Found) → nthField (marks (w .attrs)) field ≡ f → fieldRefusal w text f ≡ 0 → PostReady rows w field text
+  unfolding fieldRefusal firstRefusal tooLong misfits
+  ready-at few o (At k) e z =
+      let l = passed (ltb (fieldEnd (marks (w .attrs)) k - k) (length text)) (λ n. omega arith) z in
+      let a = passed (not (allFit (kindAt (marks (w .attrs)) k) text)) (λ n. omega arith) (l .1) in
+      let s = ltb-false (fieldEnd (marks (w .attrs)) k - k) (length text) (l .0) in
+      let t = not-false (allFit (kindAt (marks (w .attrs)) k) text) (a .0) in
+      record {
         sound = sound-in few (o .sized) (o .good);
         unbarred = o .unbarred;
         formatted = o .formatted;
         start = k;
         found = e;
-        short = l;
-        fit = a;
-        left = sym (post-found o field text e (sym (at-field w text k l a)));
-      }))
+        short = s;
+        fit = t;
+        leaves = sym (post-found o field text e (sym (at-field w text k s t)));
+      }
+  ready-at few o Nothing e z = absurd (omega arith)
+
+  pub post-ready : rows ≤ 96 → postedTo rows w field text .number ≡ 0 → PostReady rows w field text
+  unfolding postedTo postRefusal firstRefusal fieldRefusal
+  post-ready few e =
+      let s = passed (not (isSized rows (w .chars) (w .attrs))) (λ n. omega arith) e in
+      let g = passed (not (isGood rows (w .state))) (λ n. omega arith) (s .1) in
+      let b = passed (barred (w .state)) (λ n. omega arith) (g .1) in
+      let f = passed (not (w .state .format)) (λ n. omega arith) (b .1) in
+      ready-at few
+      (record {
+        sized = not-false (isSized rows (w .chars) (w .attrs)) (s .0);
+        good = not-false (isGood rows (w .state)) (g .0);
+        unbarred = b .0;
+        formatted = not-false (w .state .format) (f .0);
+      })
+      (nthField (marks (w .attrs)) field) refl (f .1)
+
+  -- ---- what the world after a refused post has, and the one after a post that is done, that after any post has
+  by-number : (P : World → Type 0) → P w → (postRefusal rows w field text ≡ 0 → P (postedAt w text (nthField (marks (w .attrs)) field))) → P (postedTo rows w field text .world)
+  unfolding postedTo
+  by-number P left go = choose-by P (eqb (postRefusal rows w field text) 0) (λ t. go (eqb-true (postRefusal rows w field text) 0 t)) (λ _. left)
 
   -- ---- a post leaves the state and the attributes
+  at-state : (f : Found) → postedAt w text f .state ≡ w .state
+  unfolding postedAt
+  at-state (At k) = refl
+  at-state Nothing = refl
+
+  at-attrs : (f : Found) → postedAt w text f .attrs ≡ w .attrs
+  unfolding postedAt
+  at-attrs (At k) = refl
+  at-attrs Nothing = refl
+
   pub post-state : postedTo rows w field text .world .state ≡ w .state
-  unfolding done
-  post-state =
-      let P : Posted → Type 0 = λ p. p .world .state ≡ w .state in
-      by-tests P w text (λ _ _. refl) rows field (λ _. by-field P w text (λ _ _. refl) _ (λ _ _ _ _. refl))
+  post-state = by-number (λ (v : World). v .state ≡ w .state) refl (λ _. at-state (nthField (marks (w .attrs)) field))
 
   pub post-attrs : postedTo rows w field text .world .attrs ≡ w .attrs
-  unfolding done
-  post-attrs =
-      let P : Posted → Type 0 = λ p. p .world .attrs ≡ w .attrs in
-      by-tests P w text (λ _ _. refl) rows field (λ _. by-field P w text (λ _ _. refl) _ (λ _ _ _ _. refl))
+  post-attrs = by-number (λ (v : World). v .attrs ≡ w .attrs) refl (λ _. at-attrs (nthField (marks (w .attrs)) field))
 
   -- a good state stays good
   pub post-good : Good rows (w .state) → Good rows (postedTo rows w field text .world .state)
@@ -110,10 +129,8 @@ module _ (rows : ℕ) (w : World) (field : ℕ) (text : List ℕ) where
 
   -- ---- a refused post leaves all
   pub post-refused : (postedTo rows w field text .number ≡ 0 → ⊥) → postedTo rows w field text .world ≡ w
-  unfolding done
-  post-refused =
-      let P : Posted → Type 0 = λ p. (p .number ≡ 0 → ⊥) → p .world ≡ w in
-      by-tests P w text (λ _ _ _. refl) rows field (λ _. by-field P w text (λ _ _ _. refl) _ (λ _ _ _ _ n. absurd (n refl)))
+  unfolding postedTo
+  post-refused n = rw (ne-eqb (postRefusal rows w field text) 0 n)
 
 -- ---- a field that is found lies in the memory
 pub field-inside : {rows : ℕ} {w : World} → Sound rows w → (field k : ℕ) → nthField (marks (w .attrs)) field ≡ At k → (k < rows * 80) × (fieldEnd (marks (w .attrs)) k ≤ rows * 80)
@@ -123,10 +140,10 @@ field-inside {rows} {w} s field k e =
     (omega arith, omega (arith, end-inside (marks (w .attrs)) rows k m i))
 
 -- ---- a sound world stays sound
-module _ {rows : ℕ} {w : World} (s : Sound rows w) (text : List ℕ) where
-  done-sound : (field k : ℕ) → nthField (marks (w .attrs)) field ≡ At k → length text ≤ fieldEnd (marks (w .attrs)) k - k → Sound rows (done w text k .world)
-  unfolding done
-  done-sound field k e l =
+module _ {rows : ℕ} {w : World} (s : Sound rows w) (text : List ℕ) (field : ℕ) where
+  done-sound : (k : ℕ) → nthField (marks (w .attrs)) field ≡ At k → length text ≤ fieldEnd (marks (w .attrs)) k - k → Sound rows (done w text k .world)
+  unfolding done postedAt
+  done-sound k e l =
       let i = field-inside s field k e in
       record {
         few = s .few;
@@ -137,8 +154,11 @@ module _ {rows : ℕ} {w : World} (s : Sound rows w) (text : List ℕ) where
         good = s .good;
       }
 
-  pub post-sound : (field : ℕ) → Sound rows (postedTo rows w field text .world)
-  post-sound field =
-      let P : Posted → Type 0 = λ p. Sound rows (p .world) in
-      by-tests P w text (λ _ _. s) rows field
-      (λ _. by-field P w text (λ _ _. s) (nthField (marks (w .attrs)) field) (λ k e l _. done-sound field k e l))
+  pub post-sound : Sound rows (postedTo rows w field text .world)
+  post-sound = elim (eq-or (postedTo rows w field text .number) 0) [
+    | inl z ↦ (
+        let r = post-ready rows w field text (s .few) z in
+        let e : postedTo rows w field text ≡ done w text (r .start) = r .leaves in
+        rw e (done-sound (r .start) (r .found) (r .short)))
+    | inr z ↦ rw (post-refused rows w field text z) s
+  ]

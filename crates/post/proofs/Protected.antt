@@ -17,7 +17,7 @@ use Rattle.screen.proofs.Frame.{Only, Rest, only-none, only-more, protected-kep
 use Rattle.terminal.specs.State.{World, world, pageOf}
 use Rattle.terminal.specs.Protected.{Protects}
 use Rattle.terminal.proofs.Kept.{whole}
-use Rattle.post.specs.Posts.{postedTo}
+use Rattle.post.specs.Posts.{postedAt, postedTo}
 use Rattle.post.proofs.Kept.{done, PostReady, post-ready, post-refused}
 
 -- the cells that field n holds
@@ -26,7 +26,7 @@ Held w n j = holds (marks (w .attrs)) n j ≡ true
 
 module _ {rows : ℕ} {w : World} {n : ℕ} {text : List ℕ} (r : PostReady rows w n text) where
   done-only : Only (Held w n) (pageOf w) (pageOf (done w text (r .start) .world))
-  unfolding done
+  unfolding done postedAt
   done-only =
       let ms = marks (w .attrs) in
       let k = r .start in
@@ -49,7 +49,7 @@ module _ (rows : ℕ) (w : World) (n : ℕ) (text : List ℕ) (few : rows ≤ 96
   posted-only = elim (eq-or (postedTo rows w n text .number) 0) [
     | inl z ↦ (
         let r = post-ready rows w n text few z in
-        let e : postedTo rows w n text ≡ done w text (r .start) = r .left in
+        let e : postedTo rows w n text ≡ done w text (r .start) = r .leaves in
         rw e (done-only r))
     | inr z ↦ rw (post-refused rows w n text z) (only-none refl refl)
   ]

@@ -3,7 +3,8 @@ ghost use mathlib.Core.Path.{_≡_};
 ghost use Prim.Native.Nat.{_*_, _≤_, _<_};
 ghost use Rattle.cells.specs.declared.Found.the-variants.{At};
 ghost use Rattle.terminal.specs.State.{world, Sound};
-ghost use Rattle.post.specs.Posts.{fits, allFit, postLeft, postedAt, postedTo};
+ghost use Rattle.post.specs.Posts.{fits, allFit, postLeft, postedTo};
+ghost use Rattle.post.specs.Field.{postedIn};
 use cells::Found;
 use terminal::Terminal;
 
@@ -47,7 +48,7 @@ fn post_field(
     text: &[u8],
 ) -> PostAnswer
     requires { ⌜ Sound rows (world t (now chars) (now attrs)) ⌝ ∗ ⌜ k < rows * 80 ⌝ }
-    ensures { λ r. ⌜ postLeft r (now (chars .exit)) (now (attrs .entry)) ≡ postedAt (world t (now (chars .entry)) (now (attrs .entry))) (now (text .entry)) (At k) ⌝ }
+    ensures { λ r. ⌜ postLeft r (now (chars .exit)) (now (attrs .entry)) ≡ postedIn (world t (now (chars .entry)) (now (attrs .entry))) (now (text .entry)) (At k) ⌝ }
 {
     let end = fields::field_end(attrs, k);
     if end - k < text.len() {
@@ -71,7 +72,7 @@ fn post_field(
 }
 
 // A post, in a memory of `rows` rows.
-pub fn post_on(
+fn post_on(
     t: Terminal,
     rows: usize,
     chars: &mut [u8],

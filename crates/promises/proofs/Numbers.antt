@@ -7,9 +7,10 @@ use mathlib.Core.List.{List, [], _∷_}
 use native.Mathlib.Omega.{arith}
 use lib.ListN.{length, take, getD}
 use lib.Dec.{eqb, leb, ltb}
-use borrow.Author.Tests.{eqb-true, eqb-false, ne-eqb, leb-true, leb-false, le-leb, ltb-true, ltb-false, not-true, not-false}
+use borrow.Author.Tests.{eqb-true, eqb-false, ne-eqb, leb-true, leb-false, le-leb, ltb-true, eq-eqb, lt-ltb, not-true}
 use Rattle.cells.specs.declared.Found.{Found}
 use Rattle.cells.specs.declared.Found.the-variants.{At, Nothing}
+use Rattle.cells.specs.Search.{isNothing}
 use Rattle.cells.specs.Memory.{written}
 use Rattle.cells.proofs.Search.{not-both}
 use Rattle.cells.proofs.Splice.{length-written}
@@ -19,16 +20,22 @@ use Rattle.fields.specs.Fields.{marks, kindAt, fieldEnd, nthField, target, allo
 use Rattle.reading.specs.Action as Action
 use Rattle.screen.proofs.Kept.{choose-by}
 use Rattle.terminal.specs.State.{World, isGood, isSized, barred}
-use Rattle.terminal.specs.Fresh.{Freshened, freshened}
+use Rattle.terminal.specs.Refusals.{Refusal, _when_, firstRefusal}
+use Rattle.terminal.specs.Fresh.{freshRefusal, freshened}
 use Rattle.terminal.proofs.Good.{good-in, in-good, sized-in, in-sized}
-use Rattle.key.specs.Keys.{keyAction, enter, textRefusal, keyRefusal, keyed}
+use Rattle.key.specs.Keys.{keyAction, enter, disallows, keyRefusal, keyed}
 use Rattle.key.proofs.Kept.{key-number}
-use Rattle.post.specs.Posts.{Posted, fits, allFit, postedAt, postedTo}
-use Rattle.host.specs.Streams.{answerTo, stepped, Hosted, ran, fed}
-use Rattle.host.proofs.Kept.{ran-number}
+use Rattle.post.specs.Posts.{fits, allFit, tooLong, misfits, postRefusal, postedTo}
+use Rattle.host.specs.Streams.{answerTo, stepped, Hosted, hosted, fedOn, hostRefusal, fed}
+use Rattle.host.proofs.Kept.{fedOn-number}
 use Rattle.mixing.specs.Event.{run}
-use Rattle.promises.specs.Numbers.{Line, _when_, WrongSize, NotGood, Text, Listed, NotListed, Barred, NoTarget, NotAllowed, NoRoom, NoField, TooLong, BadByte, sent, ShortOfRoom, freshTable, keyTable, postTable, hostTable, FreshNumbers, KeyNumbers, PostNumbers, HostNumbers}
-use Rattle.promises.proofs.Tables.{Chosen, none, applies, passes, choose, first, unless, given}
+use Rattle.promises.specs.Numbers.{Line, _for_, WrongSize, NotGood, Text, Listed, NotListed, Barred, NoTarget, NotAllowed, NoRoom, NoField, TooLong, BadByte, sent, ShortOfRoom, freshTable, keyTable, postTable, hostTable, FreshNumbers, KeyNumbers, PostNumbers, HostNumbers}
+use Rattle.promises.proofs.Tables.{Chosen, none, applies, passes, Tested, untested, tested, tested-chosen, given}
+
+-- a test that cannot be true is false
+unless-true : {b : Bool} → ¬ (b ≡ true) → not b ≡ true
+unless-true {b = true} h = absurd (h refl)
+unless-true {b = false} h = refl
 
 -- ---- 1: the sizes
 module _ (rows : ℕ) (chars attrs : List ℕ) where
@@ -51,11 +58,11 @@ module _ (rows : ℕ) (w : World) where
   is-good e n = n (good-in rows (w .state) e)
 
 -- ---- 1 and 2, before the other tests
-ready : {A : Type 0} (f : A → ℕ) (rows : ℕ) (w : World) {x y z : A} {ls : List Line} → f z ≡ 1 → f y ≡ 2 → Chosen ls (f x)
-    → Chosen ((1 when WrongSize rows (w .chars) (w .attrs)) ∷ (2 when NotGood rows w) ∷ ls) (f (cond (isSized rows (w .chars) (w .attrs)) (cond (isGood rows (w .state)) x y) z))
-ready f rows w one two rest =
-    unless f (isSized rows (w .chars) (w .attrs)) one (wrong-size rows (w .chars) (w .attrs)) (right-size rows (w .chars) (w .attrs))
-    (λ _. unless f (isGood rows (w .state)) two (not-good rows w) (is-good rows w) (λ _. rest))
+ready : (rows : ℕ) (w : World) {rs : List Refusal} {ls : List Line} → Tested rs ls
+    → Tested ((1 when not (isSized rows (w .chars) (w .attrs))) ∷ (2 when not (isGood rows (w .state))) ∷ rs) ((1 for WrongSize rows (w .chars) (w .attrs)) ∷ (2 for NotGood rows w) ∷ ls)
+ready rows w rest =
+    tested (λ e. wrong-size rows (w .chars) (w .attrs) (not-true _ e)) (λ c. unless-true (λ e. right-size rows (w .chars) (w .attrs) e c))
+    (tested (λ e. not-good rows w (not-true _ e)) (λ c. unless-true (λ e. is-good rows w e c)) rest)
 
 -- ---- 3: text and listed codes
 text-in : (code : ℕ) → within 32 126 code ≡ true → Text code
@@ -111,63 +118,78 @@ is-barred : (lock : Bool) (n : ℕ) → (lock || not (eqb n 0)) ≡ true → (lo
 is-barred true n e = inl refl
 is-barred false n e = inr (eqb-false n 0 (not-true (eqb n 0) e))
 
-not-barred : (lock : Bool) (n : ℕ) → (lock || not (eqb n 0)) ≡ false → ¬ ((lock ≡ true) ⊎ ¬ (n ≡ 0))
-not-barred true n e o = not-both refl e
-not-barred false n e (inl p) = not-both p refl
-not-barred false n e (inr p) = p (eqb-true n 0 (not-false (eqb n 0) e))
+to-barred : (lock : Bool) (n : ℕ) → (lock ≡ true) ⊎ ¬ (n ≡ 0) → (lock || not (eqb n 0)) ≡ true
+to-barred true n o = refl
+to-barred false n (inl p) = absurd (not-both p refl)
+to-barred false n (inr p) = ap not (ne-eqb n 0 p)
 
-open-to : {A : Type 0} (f : A → ℕ) (w : World) {x y : A} {ls : List Line} → f y ≡ 4 → Chosen ls (f x) → Chosen ((4 when Barred w) ∷ ls) (f (cond (barred (w .state)) y x))
+bar : (w : World) {rs : List Refusal} {ls : List Line} → Tested rs ls → Tested ((4 when barred (w .state)) ∷ rs) ((4 for Barred w) ∷ ls)
 unfolding barred
-open-to f w four rest =
-    first f (w .state .lock || not (eqb (w .state .pending) 0)) four (is-barred (w .state .lock) (w .state .pending)) (not-barred (w .state .lock) (w .state .pending)) (λ _. rest)
+bar w = tested (is-barred (w .state .lock) (w .state .pending)) (to-barred (w .state .lock) (w .state .pending))
 
 -- ---- fresh
 pub fresh-chosen : (rows : ℕ) (chars attrs : List ℕ) → Chosen (freshTable rows chars attrs) (freshened rows chars attrs .number)
-unfolding freshened
+unfolding freshened freshRefusal
 fresh-chosen rows chars attrs =
-    unless (λ (f : Freshened). f .number) (isSized rows chars attrs) refl (wrong-size rows chars attrs) (right-size rows chars attrs) (λ _. none)
+    tested-chosen (tested (λ e. wrong-size rows chars attrs (not-true _ e)) (λ c. unless-true (λ e. right-size rows chars attrs e c)) untested)
+
+-- ---- a search that found nothing
+nothing-in : (f : Found) → isNothing f ≡ true → f ≡ Nothing
+nothing-in (At k) e = absurd (not-both e refl)
+nothing-in Nothing e = refl
 
 -- ---- keys: 5 and 6 by the target, then 7
 module _ (w : World) (reply : List ℕ) (code : ℕ) where
-  Rest : ℕ → Type 1
-  Rest = Chosen ((5 when NoTarget w code) ∷ (6 when NotAllowed w code) ∷ (7 when NoRoom reply code) ∷ [])
+  abbrev ms : List ℕ
+  ms = marks (w .attrs)
 
-  -- a text key is not ENTER
-  no-enter : Text code → ¬ NoRoom reply code
-  no-enter t r = omega (arith, t, r .0)
+  abbrev found : Found
+  found = target ms (cellOf (w .state .cursor))
 
-  by-target : Text code → w .state .format ≡ true → (f : Found) → target (marks (w .attrs)) (cellOf (w .state .cursor)) ≡ f → Rest (textRefusal code (marks (w .attrs)) f)
-  unfolding Rest
-  by-target t on (At k) e =
-      passes (λ c. let z : _≡_ {A = ℕ} 0 1 = cc (e, c .2) in omega arith)
-      (unless (λ (n : ℕ). n) (allowed (kindAt (marks (w .attrs)) k) code) refl (λ a. (t, on, (k, e, a)))
-      (λ a c. let s : k ≡ c .2 .0 = cc (e, c .2 .1) in not-both a (ap (λ (i : ℕ). allowed (kindAt (marks (w .attrs)) i) code) s ∙ c .2 .2))
-      (λ _. passes (no-enter t) none))
-  by-target t on Nothing e = applies (t, on, e) refl
+  abbrev aims : Bool
+  aims = within 32 126 code && w .state .format
 
-  by-code : Rest (cond (within 32 126 code) (cond (w .state .format) (textRefusal code (marks (w .attrs)) (target (marks (w .attrs)) (cellOf (w .state .cursor)))) 0)
-      (cond (eqb code enter) (cond (ltb (length reply) 1) 7 0) 0))
-  unfolding Rest
+  aims-in : aims ≡ true → Text code × (w .state .format ≡ true)
+  aims-in e = let a = and-eq-true-iff (within 32 126 code) (w .state .format) .0 e in (text-in code (a .0), a .1)
+
+  in-aims : Text code → w .state .format ≡ true → aims ≡ true
+  in-aims t on = and-eq-true-iff (within 32 126 code) (w .state .format) .1 (in-text code t, on)
+
+  disallowed : (f : Found) → disallows ms code f ≡ true → (cell : ℕ) × (f ≡ At cell) × (allowed (kindAt ms cell) code ≡ false)
+  unfolding disallows
+  disallowed (At k) e = (k, refl, not-true _ e)
+  disallowed Nothing e = absurd (not-both e refl)
+
+  to-disallowed : (cell : ℕ) → found ≡ At cell → allowed (kindAt ms cell) code ≡ false → disallows ms code found ≡ true
+  unfolding disallows
+  to-disallowed cell e a = ap (disallows ms code) e ∙ ap not a
+
+  no-target : aims && isNothing found ≡ true → NoTarget w code
+  no-target e = let a = and-eq-true-iff aims (isNothing found) .0 e in let b = aims-in (a .0) in (b .0, b .1, nothing-in found (a .1))
+
+  not-allowed : aims && disallows ms code found ≡ true → NotAllowed w code
+  not-allowed e = let a = and-eq-true-iff aims (disallows ms code found) .0 e in let b = aims-in (a .0) in (b .0, b .1, disallowed found (a .1))
+
+  no-room : eqb code enter && ltb (length reply) 1 ≡ true → NoRoom reply code
+  no-room e = let a = and-eq-true-iff (eqb code enter) (ltb (length reply) 1) .0 e in (eqb-true code enter (a .0), ltb-true (length reply) 1 (a .1))
+
+  by-code :
+      Tested ((5 when (aims && isNothing found)) ∷ (6 when (aims && disallows ms code found)) ∷ (7 when (eqb code enter && ltb (length reply) 1)) ∷ [])
+      ((5 for NoTarget w code) ∷ (6 for NotAllowed w code) ∷ (7 for NoRoom reply code) ∷ [])
   by-code =
-      choose (λ (n : ℕ). n) (within 32 126 code)
-      (λ t. choose (λ (n : ℕ). n) (w .state .format) (λ on. by-target (text-in code t) on _ refl)
-      (λ off. passes (λ c. not-both (c .1) off) (passes (λ c. not-both (c .1) off) (passes (no-enter (text-in code t)) none))))
-      (λ t. passes (λ c. not-text code t (c .0)) (passes (λ c. not-text code t (c .0))
-      (choose (λ (n : ℕ). n) (eqb code enter)
-      (λ e. first (λ (n : ℕ). n) (ltb (length reply) 1) refl (λ l. (eqb-true code enter e, ltb-true (length reply) 1 l)) (λ l c. omega (arith, ltb-false (length reply) 1 l, c .1)) (λ _. none))
-      (λ e. passes (λ c. eqb-false code enter e (c .0)) none))))
-
-refusal-chosen : (rows : ℕ) (w : World) (reply : List ℕ) (code : ℕ) → Chosen (keyTable rows w reply code) (keyRefusal rows w code (length reply))
-unfolding keyRefusal Rest
-refusal-chosen rows w reply code =
-    let n : ℕ → ℕ = λ k. k in
-    ready n rows w refl refl
-    (first n (eqb (keyAction code (w .state .insert)) Action.rest) refl
-    (λ e l. not-both e (listed code (w .state .insert) l)) (λ e l. eqb-false _ _ e (unlisted code (w .state .insert) l))
-    (λ _. open-to n w refl (by-code w reply code)))
+      tested no-target (λ c. and-eq-true-iff aims (isNothing found) .1 (in-aims (c .0) (c .1), ap isNothing (c .2)))
+      (tested not-allowed (λ c. and-eq-true-iff aims (disallows ms code found) .1 (in-aims (c .0) (c .1), to-disallowed (c .2 .0) (c .2 .1) (c .2 .2)))
+      (tested no-room (λ c. and-eq-true-iff (eqb code enter) (ltb (length reply) 1) .1 (eq-eqb code enter (c .0), lt-ltb (length reply) 1 (c .1))) untested))
 
 pub key-chosen : (rows : ℕ) (w : World) (reply : List ℕ) (code : ℕ) → Chosen (keyTable rows w reply code) (keyed rows w reply code .number)
-key-chosen rows w reply code = subst (Chosen _) (sym (key-number rows w reply code)) (refusal-chosen rows w reply code)
+unfolding keyRefusal
+key-chosen rows w reply code =
+    subst (Chosen _) (sym (key-number rows w reply code))
+    (tested-chosen
+    (ready rows w
+    (tested
+    (λ e l. not-both e (listed code (w .state .insert) l)) (λ l. eq-eqb _ _ (unlisted code (w .state .insert) l))
+    (bar w (by-code w reply code)))))
 
 -- ---- posts: 6 by the bytes
 abbrev Bad : ℕ → List ℕ → Type 0
@@ -194,27 +216,45 @@ no-bad-byte kind (b ∷ bs) e (suc i) l h =
     no-bad-byte kind bs (and-eq-true-iff (within 32 126 b && allowed kind b) (allFit kind bs) .0 e .1) i (omega arith) h
 
 module _ (w : World) (field : ℕ) (text : List ℕ) where
-  by-field : (f : Found) → nthField (marks (w .attrs)) field ≡ f
-      → Chosen ((9 when NoField w field) ∷ (10 when TooLong w field text) ∷ (6 when BadByte w field text) ∷ []) (postedAt w text f .number)
-  unfolding postedAt
-  by-field (At k) e =
-      let ms = marks (w .attrs) in
-      passes (λ c. let z : _≡_ {A = ℕ} 0 1 = cc (e, c) in omega arith)
-      (first (λ (p : Posted). p .number) (ltb (fieldEnd ms k - k) (length text)) refl (λ l. (k, e, ltb-true _ _ l))
-      (λ l c. let s : k ≡ c .0 = cc (e, c .1) in
-      let o : fieldEnd ms k - k < length text = subst (λ (i : ℕ). fieldEnd ms i - i < length text) (sym s) (c .2) in
-      omega (arith, ltb-false (fieldEnd ms k - k) (length text) l))
-      (λ _. unless (λ (p : Posted). p .number) (allFit (kindAt ms k) text) refl (λ a. (k, e, bad-byte (kindAt ms k) text a))
-      (λ a c. let s : k ≡ c .0 = cc (e, c .1) in
-      no-bad-byte (kindAt ms (c .0)) text (ap (λ (i : ℕ). allFit (kindAt ms i) text) (sym s) ∙ a) (c .2 .0) (c .2 .1) (c .2 .2))
-      (λ _. none)))
-  by-field Nothing e = applies e refl
+  abbrev here-ms : List ℕ
+  here-ms = marks (w .attrs)
+
+  abbrev place : Found
+  place = nthField here-ms field
+
+  too-long : (f : Found) → tooLong here-ms text f ≡ true → (start : ℕ) × (f ≡ At start) × (fieldEnd here-ms start - start < length text)
+  unfolding tooLong
+  too-long (At k) e = (k, refl, ltb-true _ _ e)
+  too-long Nothing e = absurd (not-both e refl)
+
+  to-long : (start : ℕ) → place ≡ At start → fieldEnd here-ms start - start < length text → tooLong here-ms text place ≡ true
+  unfolding tooLong
+  to-long k e l = ap (tooLong here-ms text) e ∙ lt-ltb (fieldEnd here-ms k - k) (length text) l
+
+  misfit : (f : Found) → misfits here-ms text f ≡ true → (start : ℕ) × (f ≡ At start) × Bad (kindAt here-ms start) text
+  unfolding misfits
+  misfit (At k) e = (k, refl, bad-byte (kindAt here-ms k) text (not-true _ e))
+  misfit Nothing e = absurd (not-both e refl)
+
+  to-misfit : (start : ℕ) → place ≡ At start → Bad (kindAt here-ms start) text → misfits here-ms text place ≡ true
+  unfolding misfits
+  to-misfit k e b = ap (misfits here-ms text) e ∙ unless-true (λ a. no-bad-byte (kindAt here-ms k) text a (b .0) (b .1) (b .2))
+
+  by-field :
+      Tested ((9 when isNothing place) ∷ (10 when tooLong here-ms text place) ∷ (6 when misfits here-ms text place) ∷ [])
+      ((9 for NoField w field) ∷ (10 for TooLong w field text) ∷ (6 for BadByte w field text) ∷ [])
+  by-field =
+      tested (nothing-in place) (λ c. ap isNothing c)
+      (tested (too-long place) (λ c. to-long (c .0) (c .1) (c .2))
+      (tested (misfit place) (λ c. to-misfit (c .0) (c .1) (c .2)) untested))
 
 pub post-chosen : (rows : ℕ) (w : World) (field : ℕ) (text : List ℕ) → Chosen (postTable rows w field text) (postedTo rows w field text .number)
-unfolding postedTo
+unfolding postedTo postRefusal
 post-chosen rows w field text =
-    let n : Posted → ℕ = λ p. p .number in
-    ready n rows w refl refl (open-to n w refl (unless n (w .state .format) refl (λ off. off) (λ on off. not-both on off) (λ _. by-field w field text _ refl)))
+    tested-chosen
+    (ready rows w
+    (bar w
+    (tested (λ e. not-true (w .state .format) e) (λ c. ap not c) (by-field w field text))))
 
 -- ---- streams: 7 by the replies, of which `at` bytes are written before
 Over : ℕ → World → List ℕ → ℕ → ℕ → Type 0
@@ -222,28 +262,28 @@ Over rows w bytes at room =
     (i : ℕ) × (i < length bytes)
     × (room < at + (sent rows (take i bytes) w + length (answerTo (getD bytes i 0) (run (stepped rows) (take i bytes) w))))
 
-ran-over : (rows : ℕ) (bytes : List ℕ) (taken at : ℕ) (w : World) (reply : List ℕ) (room : ℕ) → length reply ≡ room → ran rows bytes taken at w reply .number ≡ 7
+fedOn-over : (rows : ℕ) (bytes : List ℕ) (taken at : ℕ) (w : World) (reply : List ℕ) (room : ℕ) → length reply ≡ room → fedOn rows bytes taken at w reply .number ≡ 7
     → Over rows w bytes at room
-unfolding ran Over
-ran-over rows [] taken at w reply room r = λ z. absurd (omega arith)
-ran-over rows (b ∷ bs) taken at w reply room r =
+unfolding fedOn Over
+fedOn-over rows [] taken at w reply room r = λ z. absurd (omega arith)
+fedOn-over rows (b ∷ bs) taken at w reply room r =
     choose-by (λ (h : Hosted). h .number ≡ 7 → Over rows w (b ∷ bs) at room) (leb (at + length (answerTo b w)) (length reply))
     (λ t z.
     let long = length-written reply at (answerTo b w) (leb-true _ _ t) in
-    let (i, l, o) = ran-over rows bs (taken + 1) (at + length (answerTo b w)) (stepped rows b w) (written reply at (answerTo b w)) room (long ∙ r) z in
+    let (i, l, o) = fedOn-over rows bs (taken + 1) (at + length (answerTo b w)) (stepped rows b w) (written reply at (answerTo b w)) room (long ∙ r) z in
     (suc i, omega arith, omega arith))
     (λ t _. (0, omega arith, omega (arith, leb-false (at + length (answerTo b w)) (length reply) t)))
 
-ran-fits : (rows : ℕ) (bytes : List ℕ) (taken at : ℕ) (w : World) (reply : List ℕ) (room : ℕ) → length reply ≡ room → ran rows bytes taken at w reply .number ≡ 0
+fedOn-fits : (rows : ℕ) (bytes : List ℕ) (taken at : ℕ) (w : World) (reply : List ℕ) (room : ℕ) → length reply ≡ room → fedOn rows bytes taken at w reply .number ≡ 0
     → ¬ Over rows w bytes at room
-unfolding ran Over
-ran-fits rows [] taken at w reply room r = λ z o. omega (arith, o .1)
-ran-fits rows (b ∷ bs) taken at w reply room r =
+unfolding fedOn Over
+fedOn-fits rows [] taken at w reply room r = λ z o. omega (arith, o .1)
+fedOn-fits rows (b ∷ bs) taken at w reply room r =
     choose-by (λ (h : Hosted). h .number ≡ 0 → ¬ Over rows w (b ∷ bs) at room) (leb (at + length (answerTo b w)) (length reply))
     (λ t z o.
     let fit : at + length (answerTo b w) ≤ length reply = leb-true _ _ t in
     let long = length-written reply at (answerTo b w) fit in
-    by fit (ran-fits rows bs (taken + 1) (at + length (answerTo b w)) (stepped rows b w) (written reply at (answerTo b w)) room (long ∙ r) z) (o .0) (o .1) (o .2))
+    by fit (fedOn-fits rows bs (taken + 1) (at + length (answerTo b w)) (stepped rows b w) (written reply at (answerTo b w)) room (long ∙ r) z) (o .0) (o .1) (o .2))
     (λ t z. absurd (omega arith))
   where
     by : at + length (answerTo b w) ≤ length reply → ¬ Over rows (stepped rows b w) bs (at + length (answerTo b w)) room → (i : ℕ) → i < length (b ∷ bs)
@@ -252,13 +292,20 @@ ran-fits rows (b ∷ bs) taken at w reply room r =
     by fit n (suc i) l o = n (i, omega arith, omega arith)
 
 pub host-chosen : (rows : ℕ) (w : World) (bytes reply : List ℕ) → Chosen (hostTable rows w bytes reply) (fed rows w bytes reply .number)
-unfolding fed Over
-host-chosen rows w bytes reply = ready (λ (h : Hosted). h .number) rows w refl refl (by (ran-number rows bytes 0 0 w reply))
+unfolding fed hostRefusal firstRefusal Over
+host-chosen rows w bytes reply = go (isSized rows (w .chars) (w .attrs)) (isGood rows (w .state)) refl refl
   where
-    by : (ran rows bytes 0 0 w reply .number ≡ 0) ⊎ (ran rows bytes 0 0 w reply .number ≡ 7)
-        → Chosen ((7 when ShortOfRoom rows w bytes reply) ∷ []) (ran rows bytes 0 0 w reply .number)
-    by (inl z) = passes (λ s. ran-fits rows bytes 0 0 w reply (length reply) refl z (s .0, s .1, omega (arith, s .2))) (subst (Chosen []) (sym z) none)
-    by (inr z) = let o = ran-over rows bytes 0 0 w reply (length reply) refl z in applies (o .0, o .1, omega (arith, o .2)) z
+    by : (fedOn rows bytes 0 0 w reply .number ≡ 0) ⊎ (fedOn rows bytes 0 0 w reply .number ≡ 7)
+        → Chosen ((7 for ShortOfRoom rows w bytes reply) ∷ []) (fedOn rows bytes 0 0 w reply .number)
+    by (inl z) = passes (λ s. fedOn-fits rows bytes 0 0 w reply (length reply) refl z (s .0, s .1, omega (arith, s .2))) (subst (Chosen []) (sym z) none)
+    by (inr z) = let o = fedOn-over rows bytes 0 0 w reply (length reply) refl z in applies (o .0, o .1, omega (arith, o .2)) z
+
+    go : (s g : Bool) → isSized rows (w .chars) (w .attrs) ≡ s → isGood rows (w .state) ≡ g
+        → Chosen (hostTable rows w bytes reply)
+        (cond (eqb (cond (not s) 1 (cond (not g) 2 0)) 0) (fedOn rows bytes 0 0 w reply) (hosted (cond (not s) 1 (cond (not g) 2 0)) 0 0 w reply) .number)
+    go false g p q = applies (wrong-size rows (w .chars) (w .attrs) p) refl
+    go true false p q = passes (right-size rows (w .chars) (w .attrs) p) (applies (not-good rows w q) refl)
+    go true true p q = passes (right-size rows (w .chars) (w .attrs) p) (passes (is-good rows w q) (by (fedOn-number rows bytes 0 0 w reply)))
 
 -- ---- the promise
 module _ (rows : ℕ) where

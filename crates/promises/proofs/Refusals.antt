@@ -6,13 +6,13 @@ use mathlib.Core.Bool.{true}
 use mathlib.Core.List.{List, [], _∷_}
 use native.Mathlib.Omega.{arith}
 use Rattle.terminal.specs.State.{World, isGood, isSized, Good}
+use Rattle.terminal.specs.Refusals.{firstRefusal}
 use Rattle.terminal.proofs.Good.{freshened-good, freshened-refused}
-use Rattle.screen.proofs.Kept.{choose-by}
 use Rattle.key.proofs.Kept.{key-refused, key-counts, key-good}
 use Rattle.post.proofs.Kept.{post-refused, post-good}
-use Rattle.host.specs.Streams.{hosted, ran, fed}
-use Rattle.host.proofs.Kept.{ran-number, fed-good}
-use Rattle.host.proofs.Streams.{ran-counts, ran-taken, ran-full}
+use Rattle.host.specs.Streams.{hosted, fedOn, hostRefusal, fed}
+use Rattle.host.proofs.Kept.{fedOn-number, fed-by, fed-good}
+use Rattle.host.proofs.Streams.{fedOn-counts, fedOn-taken, fedOn-full}
 use Rattle.promises.specs.Calls.{Call, host, key, post, called}
 use Rattle.promises.specs.Refusals.{HostKeeps, FreshRefusals, KeyRefusals, PostRefusals, HostRefusals, GoodShown, FreshGood, GoodStays}
 use Rattle.promises.proofs.Tables.{one-of}
@@ -32,20 +32,20 @@ fresh-refusals rows chars attrs = record { numbered = one-of (fresh-chosen rows 
 pub post-refusals : (rows : ℕ) → PostRefusals rows
 post-refusals rows w field text = record { numbered = one-of (post-chosen rows w field text); refusal-leaves = post-refused rows w field text }
 
--- a stream that ran; one that is refused
+-- a stream that is read; one that is refused
 module _ (rows : ℕ) (w : World) (bytes reply : List ℕ) where
-  ran-keeps : isSized rows (w .chars) (w .attrs) ≡ true → isGood rows (w .state) ≡ true → HostKeeps rows w bytes reply (ran rows bytes 0 0 w reply)
-  unfolding fed
-  ran-keeps s g =
-      let h = ran rows bytes 0 0 w reply in
-      let c = ran-counts rows bytes 0 0 w reply (omega arith) in
+  fedOn-keeps : isSized rows (w .chars) (w .attrs) ≡ true → isGood rows (w .state) ≡ true → HostKeeps rows w bytes reply (fedOn rows bytes 0 0 w reply)
+  unfolding fed hostRefusal firstRefusal
+  fedOn-keeps s g =
+      let h = fedOn rows bytes 0 0 w reply in
+      let c = fedOn-counts rows bytes 0 0 w reply (omega arith) in
       let z : h .taken - 0 ≡ h .taken = omega arith in
       record {
-        numbered = ⊎-elim (λ e. inl e) (λ e. inr (inr (inr (inl e)))) (ran-number rows bytes 0 0 w reply);
+        numbered = ⊎-elim (λ e. inl e) (λ e. inr (inr (inr (inl e)))) (fedOn-number rows bytes 0 0 w reply);
         done-takes = λ e. omega (arith, c .all-taken e);
-        refusal-leaves = λ o. absurd (⊎-elim (λ e. ⊎-elim (λ p. omega arith) (λ p. omega arith) o) (λ e. ⊎-elim (λ p. omega arith) (λ p. omega arith) o) (ran-number rows bytes 0 0 w reply));
-        short-keeps = λ e. rw (s, g) (rw z at (ran-taken rows bytes 0 0 w reply (omega arith)));
-        short-stops = λ e. (omega (arith, c .stopped e), rw z at (ran-full rows bytes 0 0 w reply (omega arith) e));
+        refusal-leaves = λ o. absurd (⊎-elim (λ e. ⊎-elim (λ p. omega arith) (λ p. omega arith) o) (λ e. ⊎-elim (λ p. omega arith) (λ p. omega arith) o) (fedOn-number rows bytes 0 0 w reply));
+        short-keeps = λ e. rw (s, g) (rw z at (fedOn-taken rows bytes 0 0 w reply (omega arith)));
+        short-stops = λ e. (omega (arith, c .stopped e), rw z at (fedOn-full rows bytes 0 0 w reply (omega arith) e));
         taken-in = omega (arith, c .taken-upto);
         written-in = c .sent-upto;
         room-stays = c .reply-long;
@@ -68,11 +68,7 @@ module _ (rows : ℕ) (w : World) (bytes reply : List ℕ) where
       }
 
 pub host-refusals : (rows : ℕ) → HostRefusals rows
-unfolding fed
-host-refusals rows w bytes reply =
-    choose-by (HostKeeps rows w bytes reply) (isSized rows (w .chars) (w .attrs))
-    (λ s. choose-by (HostKeeps rows w bytes reply) (isGood rows (w .state)) (ran-keeps rows w bytes reply s) (λ _. refused-keeps rows w bytes reply 2 (inr refl)))
-    (λ _. refused-keeps rows w bytes reply 1 (inl refl))
+host-refusals rows w bytes reply = fed-by (HostKeeps rows w bytes reply) rows w bytes reply (fedOn-keeps rows w bytes reply) (refused-keeps rows w bytes reply)
 
 module _ (rows : ℕ) (few : rows ≤ 96) where
   pub key-refusals : KeyRefusals rows

@@ -17,9 +17,10 @@ use Rattle.screen.specs.Edits.{homed, homedDown, goneFound, backTabbedIn, put, 
 use Rattle.terminal.specs.State.{freshWorld, isGood, isSized, barred, Sound}
 use Rattle.terminal.specs.Acts.{switched, backTabbedBy, steered, stamps, stamped, acted}
 use Rattle.terminal.proofs.Good.{sound-in}
-use Rattle.key.specs.Keys.{keyAction, keyRefusal, keyDone, keyed}
-use Rattle.post.specs.Posts.{fits, allFit, postedAt, postedTo}
-use Rattle.host.specs.Streams.{actionFor, readOn, steppedBy, stepped as byteStepped, replyTo, answerTo, ran, fed}
+use Rattle.terminal.specs.Refusals.{firstRefusal}
+use Rattle.key.specs.Keys.{keyAction, disallows, keyRefusal, keyDone, keyed}
+use Rattle.post.specs.Posts.{fits, allFit, tooLong, misfits, postRefusal, postedAt, postedTo}
+use Rattle.host.specs.Streams.{actionFor, readOn, steppedBy, stepped as byteStepped, replyTo, answerTo, fedOn, hostRefusal, fed}
 use Rattle.mixing.specs.Mix.{Mixed, done, a-key, a-post, here, later}
 use Rattle.promises.specs.Form.{form, keys, posts, first, second, Covered, Outcome, HomeDownReads, OrderShows}
 use Rattle.promises.proofs.Sparing.{every, spares, keepApart, apart-by}
@@ -27,7 +28,7 @@ use Rattle.promises.proofs.Mixing.{mixes-agree}
 
 -- what these computations look into
 unfoldable machine : ℕ
-unfolding firstOf lastOf countOf nthOf firstIn lastIn countIn patchFrom patch filled shiftedRight shiftedLeft filledWhereFrom filledWhere written posted gone atCell goneLeft inColumn homeAt isPlaced aimed heldTo toColumn toRow marks isIn fieldEnd kindsFrom kinds kindAt unprotected firstStart nextStart prevStart nthField fieldNumber holds target letter digit allowed rowUnderText actionOf unbegun settled counted nextReading soundNumber homed homedDown goneFound backTabbedIn put cellAfter typedAt typedIn typed displayCleared lineCleared charDeleted markSet markTurned freshWorld isGood isSized barred switched backTabbedBy steered stamps stamped acted keyAction keyRefusal keyDone keyed fits allFit postedAt postedTo actionFor readOn steppedBy byteStepped replyTo answerTo ran fed form
+unfolding firstOf lastOf countOf nthOf firstIn lastIn countIn patchFrom patch filled shiftedRight shiftedLeft filledWhereFrom filledWhere written posted gone atCell goneLeft inColumn homeAt isPlaced aimed heldTo toColumn toRow marks isIn fieldEnd kindsFrom kinds kindAt unprotected firstStart nextStart prevStart nthField fieldNumber holds target letter digit allowed rowUnderText actionOf unbegun settled counted nextReading soundNumber homed homedDown goneFound backTabbedIn put cellAfter typedAt typedIn typed displayCleared lineCleared charDeleted markSet markTurned freshWorld isGood isSized barred switched backTabbedBy steered stamps stamped acted keyAction firstRefusal disallows keyRefusal keyDone keyed fits allFit tooLong misfits postRefusal postedAt postedTo actionFor readOn steppedBy byteStepped replyTo answerTo fedOn hostRefusal fed form
 machine = 0
 
 form-sound : Sound 48 form

@@ -13,12 +13,12 @@ use Rattle.reading.proofs.Rules.{either}
 use Rattle.replies.proofs.Longest.{cursor-length, status-length, block-longest}
 use Rattle.screen.proofs.Kept.{choose-by}
 use Rattle.terminal.specs.State.{World, Sound}
-use Rattle.terminal.proofs.Good.{in-sound}
 use Rattle.key.proofs.Kept.{key-sound}
 use Rattle.post.proofs.Kept.{post-sound}
-use Rattle.host.specs.Streams.{actionFor, pendingReply, replyTo, answerTo, stepped, Hosted, ran as streamed, fed}
-use Rattle.host.proofs.Streams.{ran-counts, step-fits}
-use Rattle.host.proofs.Kept.{fed-sound, ran-number}
+use Rattle.host.specs.Streams.{actionFor, pendingReply, replyTo, answerTo, stepped, Hosted, fedOn as streamed, fed}
+use Rattle.host.proofs.Steps.{fed-on}
+use Rattle.host.proofs.Streams.{fedOn-counts, step-fits}
+use Rattle.host.proofs.Kept.{fed-sound, fedOn-number}
 use Rattle.records.specs.Sessions.{kindOf, numberOf, dataOf, formRefusal, Ran, emptied, drained, hostRan, keyRan, postRan, recordRan}
 use Rattle.records.proofs.Drained.{fed-within}
 use Rattle.records.proofs.Running.{host-record}
@@ -43,8 +43,7 @@ module _ {rows : ℕ} {w : World} (s : Sound rows w) where
       (omega arith))
 
   fed-streamed : (bytes reply : List ℕ) → fed rows w bytes reply ≡ streamed rows bytes 0 0 w reply
-  unfolding fed
-  fed-streamed bytes reply = rw (in-sound s .0, in-sound s .1)
+  fed-streamed bytes reply = fed-on s bytes reply
 
   stream-takes : (bytes reply : List ℕ) → length reply ≡ rows * 160 → streamed rows bytes 0 0 w reply .number ≡ 7 → 0 < streamed rows bytes 0 0 w reply .taken
   unfolding streamed
@@ -53,7 +52,7 @@ module _ {rows : ℕ} {w : World} (s : Sound rows w) where
       choose-by (λ (h : Hosted). h .number ≡ 7 → 0 < h .taken) (leb (0 + length (answerTo b w)) (length reply))
       (λ t _.
       let fits = step-fits 0 b w reply (leb-true (0 + length (answerTo b w)) (length reply) t) in
-      omega (arith, ran-counts rows bs (0 + 1) (0 + length (answerTo b w)) (stepped rows b w) (written reply 0 (answerTo b w)) fits .taken-from))
+      omega (arith, fedOn-counts rows bs (0 + 1) (0 + length (answerTo b w)) (stepped rows b w) (written reply 0 (answerTo b w)) fits .taken-from))
       (λ t. absurd (omega (arith, leb-false (0 + length (answerTo b w)) (length reply) t, answer-longest b)))
 
   -- a call with an emptied reply buffer that does not take all takes at least one byte
@@ -61,7 +60,7 @@ module _ {rows : ℕ} {w : World} (s : Sound rows w) where
   call-takes bytes = rw (fed-streamed bytes (emptied rows)) (stream-takes bytes (emptied rows) (length-replicate {A = ℕ} (rows * 160) 0))
 
   call-number : (bytes : List ℕ) → (fed rows w bytes (emptied rows) .number ≡ 7 → ⊥) → fed rows w bytes (emptied rows) .number ≡ 0
-  call-number bytes = rw (fed-streamed bytes (emptied rows)) (λ n. ⊎-elim (λ z. z) (λ z. absurd (n z)) (ran-number rows bytes 0 0 w (emptied rows)))
+  call-number bytes = rw (fed-streamed bytes (emptied rows)) (λ n. ⊎-elim (λ z. z) (λ z. absurd (n z)) (fedOn-number rows bytes 0 0 w (emptied rows)))
 
 -- ---- the calls of an H record
 drained-answer : {rows : ℕ} {w : World} → Sound rows w → (calls : ℕ) (bytes : List ℕ) (sum : ℕ) → length bytes < calls → drained rows calls w bytes sum .answer ≡ 0

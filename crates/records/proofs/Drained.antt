@@ -7,10 +7,10 @@ use native.Mathlib.Numerals.{add-one}
 use lib.ListN.{length, take, drop, length-drop, length-replicate}
 use lib.Seq.{drop-drop, take-all}
 use borrow.Author.Tests.{eq-eqb, ne-eqb}
-use Rattle.reading.proofs.Rules.{either}
-use Rattle.terminal.specs.State.{World, isGood, isSized}
-use Rattle.host.specs.Streams.{Hosted, hosted, fed}
-use Rattle.host.proofs.Streams.{ran-counts}
+use Rattle.terminal.specs.State.{World}
+use Rattle.host.specs.Streams.{Hosted, fed}
+use Rattle.host.proofs.Kept.{fed-by}
+use Rattle.host.proofs.Streams.{fedOn-counts}
 use Rattle.records.specs.Sessions.{ran, emptied, drained, hostRan}
 
 -- a call takes no more than there is, and writes no more than there is room for
@@ -19,13 +19,10 @@ pub record Within (bytes reply : List ℕ) (h : Hosted) : Type 0 where
   pub written-in : h .written ≤ length reply
 
 pub fed-within : (rows : ℕ) (w : World) (bytes reply : List ℕ) → Within bytes reply (fed rows w bytes reply)
-unfolding fed
 fed-within rows w bytes reply =
-    let P : Hosted → Type 0 = Within bytes reply in
-    let c = ran-counts rows bytes 0 0 w reply (omega arith) in
-    let none : (n : ℕ) → P (hosted n 0 0 w reply) = λ n. record { taken-in = omega arith; written-in = omega arith } in
-    either P (isSized rows (w .chars) (w .attrs))
-    (either P (isGood rows (w .state)) (record { taken-in = omega (arith, c .taken-upto); written-in = c .sent-upto }) (none 2)) (none 1)
+    let c = fedOn-counts rows bytes 0 0 w reply (omega arith) in
+    fed-by (Within bytes reply) rows w bytes reply (λ _ _. record { taken-in = omega (arith, c .taken-upto); written-in = c .sent-upto })
+    (λ _ _. record { taken-in = omega arith; written-in = omega arith })
 
 -- the bytes from `at` on, as a part of all
 pub rest : (bytes : List ℕ) (at : ℕ) → take (length bytes - at) (drop at bytes) ≡ drop at bytes

@@ -11,7 +11,8 @@ use Rattle.cells.proofs.Patch.{inside-true}
 use Rattle.cells.proofs.Values.{length-filled, filled-cell}
 use Rattle.terminal.specs.declared.Terminal.{Terminal}
 use Rattle.terminal.specs.State.{World, world, freshState, freshWorld, isSized}
-use Rattle.terminal.specs.Fresh.{Freshened, freshened}
+use Rattle.terminal.specs.Refusals.{firstRefusal}
+use Rattle.terminal.specs.Fresh.{Freshened, freshRefusal, freshened}
 
 pub filled-whole : (xs : List ℕ) (n v : ℕ) → length xs ≡ n → filled xs 0 n v ≡ replicate n v
 filled-whole xs n v e =
@@ -28,9 +29,9 @@ module _ (rows : ℕ) (chars attrs : List ℕ) where
 
   -- the two answers
   pub freshened-done : {w : World} → isSized rows chars attrs ≡ true → w ≡ freshWorld rows → _≡_ {A = Freshened} (record { number = 0; world = w }) (freshened rows chars attrs)
-  unfolding freshened
+  unfolding freshened freshRefusal firstRefusal
   freshened-done e x = rw (e, x)
 
   pub freshened-not : {t : Terminal} → isSized rows chars attrs ≡ false → t ≡ freshState → _≡_ {A = Freshened} (record { number = 1; world = world t chars attrs }) (freshened rows chars attrs)
-  unfolding freshened
+  unfolding freshened freshRefusal firstRefusal
   freshened-not e x = rw (e, x)

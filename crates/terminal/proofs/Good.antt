@@ -6,14 +6,14 @@ use mathlib.Core.List.{List}
 use native.Mathlib.Omega.{arith}
 use lib.ListN.{length, length-replicate}
 use lib.Dec.{ltb, eqb}
-use borrow.Author.Tests.{ltb-true, eqb-true, lt-ltb, eq-eqb}
+use borrow.Author.Tests.{ltb-true, eqb-true, lt-ltb, eq-eqb, ne-eqb}
 use Rattle.cursor.specs.Cursor.{isPlaced}
 use Rattle.cursor.proofs.Place.{place-in, in-place}
-use Rattle.reading.proofs.Numbers.{clear-sound}
+use Rattle.reading.proofs.Numbers.{sound-in as number-facts, in-sound as number-test, clear-sound}
 use Rattle.reading.proofs.Rules.{either}
 use Rattle.terminal.specs.declared.Terminal.{Terminal}
 use Rattle.terminal.specs.State.{World, freshState, freshWorld, isGood, Good, isSized, Sound}
-use Rattle.terminal.specs.Fresh.{Freshened, freshened}
+use Rattle.terminal.specs.Fresh.{freshRefusal, freshened}
 
 -- ---- the test that passes gives the facts, the facts make it pass, and where they do not hold it fails
 pub good-in : (rows : ℕ) (t : Terminal) → isGood rows t ≡ true → Good rows t
@@ -26,12 +26,12 @@ good-in rows t e =
       place = place-in rows (t .cursor) (a .0);
       pending-in = ltb-true _ _ (b .0);
       reading-in = ltb-true _ _ (d .0);
-      number-in = d .1;
+      number-in = number-facts _ _ (d .1);
     }
 
 pub in-good : {rows : ℕ} {t : Terminal} → Good rows t → isGood rows t ≡ true
 unfolding isGood
-in-good g = rw (in-place (g .place), lt-ltb _ _ (g .pending-in), lt-ltb _ _ (g .reading-in), g .number-in)
+in-good g = rw (in-place (g .place), lt-ltb _ _ (g .pending-in), lt-ltb _ _ (g .reading-in), number-test (g .number-in))
 
 pub not-good : (rows : ℕ) (t : Terminal) → (Good rows t → ⊥) → isGood rows t ≡ false
 not-good rows t h = not-eq-not {b = false} .0 (λ e. h (good-in rows t e))
@@ -67,7 +67,7 @@ fresh-good {rows} h =
       place = omega arith;
       pending-in = omega arith;
       reading-in = omega arith;
-      number-in = clear-sound 0;
+      number-in = number-facts _ _ (clear-sound 0);
     }
 
 pub fresh-sound : {rows : ℕ} → 24 ≤ rows → rows ≤ 96 → Sound rows (freshWorld rows)
@@ -78,16 +78,12 @@ fresh-sound {rows} h f =
 -- ---- the call for a fresh terminal: a good state in any case; where it is not refused the world is sound, and a refusal leaves the buffers
 pub freshened-good : (rows : ℕ) (chars attrs : List ℕ) → 24 ≤ rows → Good rows (freshened rows chars attrs .world .state)
 unfolding freshened freshWorld
-freshened-good rows chars attrs h =
-    either (λ (f : Freshened). Good rows (f .world .state)) (isSized rows chars attrs) (fresh-good h) (fresh-good h)
+freshened-good rows chars attrs h = either (λ (w : World). Good rows (w .state)) (eqb (freshRefusal rows chars attrs) 0) (fresh-good h) (fresh-good h)
 
 pub freshened-sound : (rows : ℕ) (chars attrs : List ℕ) → 24 ≤ rows → rows ≤ 96 → freshened rows chars attrs .number ≡ 0 → Sound rows (freshened rows chars attrs .world)
 unfolding freshened
-freshened-sound rows chars attrs h f =
-    either (λ (f : Freshened). f .number ≡ 0 → Sound rows (f .world)) (isSized rows chars attrs) (λ _. fresh-sound h f) (λ e. absurd (omega arith))
+freshened-sound rows chars attrs h f e = rw (eq-eqb (freshRefusal rows chars attrs) 0 e) (fresh-sound h f)
 
 pub freshened-refused : (rows : ℕ) (chars attrs : List ℕ) → (freshened rows chars attrs .number ≡ 0 → ⊥) → (freshened rows chars attrs .world .chars ≡ chars) × (freshened rows chars attrs .world .attrs ≡ attrs)
 unfolding freshened
-freshened-refused rows chars attrs =
-    either (λ (f : Freshened). (f .number ≡ 0 → ⊥) → (f .world .chars ≡ chars) × (f .world .attrs ≡ attrs)) (isSized rows chars attrs)
-    (λ n. absurd (n refl)) (λ _. (refl, refl))
+freshened-refused rows chars attrs n = rw (ne-eqb (freshRefusal rows chars attrs) 0 n) (refl, refl)

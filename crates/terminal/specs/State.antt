@@ -1,14 +1,14 @@
 -- The terminal's state and its memory (document 01, 'Memory and state'). Assumes nothing.
 use Prim.Native.Nat.{ℕ, _*_, _≤_, _<_}
 use mathlib.Core.Path.{_≡_}
-use mathlib.Core.Bool.{Bool, true, false, _&&_, _||_, not}
+use mathlib.Core.Bool.{Bool, false, _&&_, _||_, not}
 use mathlib.Core.List.{List}
 use lib.ListN.{length, replicate}
 use lib.Dec.{ltb, eqb}
 use Rattle.cursor.specs.declared.Cursor.{Cursor}
 use Rattle.cursor.specs.Cursor.{isPlaced, InPlace}
 use Rattle.reading.specs.declared.Number.{Number}
-use Rattle.reading.specs.Reading.{clear, soundNumber}
+use Rattle.reading.specs.Reading.{clear, soundNumber, SoundNumber}
 use Rattle.screen.specs.Page.{Page, page}
 use Rattle.terminal.specs.declared.Terminal.{Terminal}
 
@@ -111,7 +111,7 @@ pub record Good (rows : ℕ) (t : Terminal) : Type 0 where
   pub place : InPlace rows (t .cursor)
   pub pending-in : t .pending < 5
   pub reading-in : t .reading < 7
-  pub number-in : soundNumber (t .reading) (t .number) ≡ true
+  pub number-in : SoundNumber (t .reading) (t .number)
 
 -- both memories have `rows` rows of 80 cells
 unfoldable pub isSized : ℕ → List ℕ → List ℕ → Bool

@@ -8,12 +8,14 @@ use borrow.Author.Tests.{lt-ltb, le-ltb, not-true, not-false}
 use Rattle.fields.specs.Fields.{marks}
 use Rattle.fields.proofs.Fields.{field-ends}
 use Rattle.terminal.specs.State.{world}
-use Rattle.post.specs.Posts.{Posted, postedAt}
+use Rattle.terminal.specs.Refusals.{firstRefusal}
+use Rattle.post.specs.Posts.{Posted, tooLong, misfits, postedAt}
+use Rattle.post.specs.Field.{fieldRefusal, postedIn}
 use Rattle.post.proofs.post_field.Statement.{statement}
 use Rattle.post.proofs.post_field.Tie as tie
 
 pub post-field-spec : {M : Type 1} → statement M
-unfolding postedAt
+unfolding postedIn fieldRefusal firstRefusal tooLong misfits postedAt
 post-field-spec =
     tie.close
     (tie.spec

@@ -1,9 +1,9 @@
 -- `host::run` meets its contract. The loop's invariant: the world is sound, the bytes sent fit, and the bytes left, run from here, leave what all bytes leave from the start.
 -- A run of text, the bytes of sequences, and any other byte each keep it. The measure is what is left of the bytes. Assumes nothing.
-use Rattle.host.proofs.Streams.{ran-turn, ran-stop, ran-end}
+use Rattle.host.proofs.Streams.{fedOn-turn, fedOn-stop, fedOn-end}
 use Rattle.host.proofs.Kept.{stepped-by-sound, sound-by}
 use Rattle.host.proofs.Runs.{free-in, text-turn}
-use Rattle.host.proofs.Sequences.{follow-ran}
+use Rattle.host.proofs.Sequences.{follow-on}
 use Rattle.cursor.proofs.Place.{row-in}
 use borrow.Author.Needs.{needs}
 use lib.ListN.{length, drop}
@@ -11,20 +11,20 @@ use native.Mathlib.Omega.{arith}
 use mathlib.Core.Path.{_≡_, refl, sym, ap, _∙_}
 use Prim.Native.Nat.{ℕ, _+_, _-_, _≤_}
 use Rattle.terminal.specs.State.{world, Sound}
-use Rattle.host.specs.Streams.{replyTo, hosted, ran}
-use Rattle.host.proofs.run.Statement.{statement}
-use Rattle.host.proofs.run.Tie as tie
+use Rattle.host.specs.Streams.{replyTo, hosted, fedOn}
+use Rattle.host.proofs.feed_on.Statement.{statement}
+use Rattle.host.proofs.feed_on.Tie as tie
 
 abbrev Inv-loop : tie.InvT-loop
 Inv-loop rows chars₀ attrs₀ bytes reply₀ table u₀ at₀ i₀ chars attrs reply u at i =
     (i ≤ length bytes) × (at ≤ length reply) × (length reply ≡ length reply₀) × Sound rows (world u chars attrs)
-    × (ran rows (drop i bytes) i at (world u chars attrs) reply ≡ ran rows bytes 0 0 (world u₀ chars₀ attrs₀) reply₀)
+    × (fedOn rows (drop i bytes) i at (world u chars attrs) reply ≡ fedOn rows bytes 0 0 (world u₀ chars₀ attrs₀) reply₀)
 
 abbrev μ-loop : tie.MeasureT-loop
 μ-loop rows chars₀ attrs₀ bytes reply₀ table u₀ at₀ i₀ chars attrs reply u at i = length bytes - i
 
-pub run-spec : {M : Type 1} → statement M
-run-spec =
+pub feed-on-spec : {M : Type 1} → statement M
+feed-on-spec =
     tie.close
     (tie.spec Inv-loop μ-loop
     (λ c κs. search needs)
@@ -54,16 +54,16 @@ run-spec =
     (λ c κs.
     let l = c .before .before .before .before .before .loop in
     let g = l .inv .3 .good in
-    ((l .inv .3 .few, g .reading-in, g .number-in, l .inv .0), (g .place, c .before .before .before .before .before .before .actions .ensures)))
+    ((l .inv .3 .few, g .reading-in, l .inv .0), (g .number-in, (g .place, c .before .before .before .before .before .before .actions .ensures))))
     (λ c.
     let l = c .before .before .before .before .before .before .before .before .before .before .loop in
     let a = c .before .before .before .before .before .before .before .before .before .before .before .before .before .before .before .before .args in
-    let f = follow-ran (a .rows) (a .bytes .now) (l .at) (l .reply) (l .inv .1) (l .i) (world (l .u) (l .chars) (l .attrs)) (l .inv .0) (l .inv .3) (c .before .before .before .before .follow .ensures) in
+    let f = follow-on (a .rows) (a .bytes .now) (l .at) (l .reply) (l .inv .1) (l .i) (world (l .u) (l .chars) (l .attrs)) (l .inv .0) (l .inv .3) (c .before .before .before .before .follow .ensures) in
     omega (arith, f .upto, c .before .before .if2 .taken))
     (λ c.
     let l = c .before .before .before .before .before .before .before .before .before .before .loop in
     let a = c .before .before .before .before .before .before .before .before .before .before .before .before .before .before .before .before .args in
-    let f = follow-ran (a .rows) (a .bytes .now) (l .at) (l .reply) (l .inv .1) (l .i) (world (l .u) (l .chars) (l .attrs)) (l .inv .0) (l .inv .3) (c .before .before .before .before .follow .ensures) in
+    let f = follow-on (a .rows) (a .bytes .now) (l .at) (l .reply) (l .inv .1) (l .i) (world (l .u) (l .chars) (l .attrs)) (l .inv .0) (l .inv .3) (c .before .before .before .before .follow .ensures) in
     (f .upto, l .inv .1, l .inv .2, f .sound, f .same ∙ l .inv .4))
     (λ c κs. (c .before .before .before .before .before .before .before .before .before .loop .inv .3 .good .reading-in, c .before .before .before .before .before .before .before .before .before .before .actions .ensures))
     (λ c. omega (arith, c .before .before .before .before .before .before .before .before .before .before .loop .inv .1))
@@ -75,7 +75,7 @@ run-spec =
     let l = c .before .before .before .before .before .before .before .before .before .before .before .before .before .before .loop in
     let a = c .before .before .before .before .before .before .before .before .before .before .before .before .before .before .before .before .before .before .before .before .args in
     let w = world (l .u) (l .chars) (l .attrs) in
-    ran-stop (a .rows) (a .bytes .now) (l .i) (l .at) w (l .reply) (omega (arith, c .before .before .before .before .before .before .before .before .before .before .before .before .before .loop-test)) (c .before .before .before .before .action-for .ensures) (omega (arith, c .if3 .taken, c .before .measure .ensures, l .inv .1)) ∙ l .inv .4)
+    fedOn-stop (a .rows) (a .bytes .now) (l .i) (l .at) w (l .reply) (omega (arith, c .before .before .before .before .before .before .before .before .before .before .before .before .before .loop-test)) (c .before .before .before .before .action-for .ensures) (omega (arith, c .if3 .taken, c .before .measure .ensures, l .inv .1)) ∙ l .inv .4)
     (λ c κs. (c .before .before .before .before .before .before .before .before .before .before .before .before .before .before .before .before .before .loop .inv .3, omega (arith, c .before .before .before .before .measure .ensures, c .before .before .before .if3 .left, c .before .before .before .before .before .before .before .before .before .before .before .before .before .before .before .before .before .loop .inv .1)))
     (λ c κs. c .before .before .before .before .before .before .before .before .before .before .before .before .before .before .before .before .before .before .before .before .before .before .loop .inv .3)
     (λ c. omega (arith, c .before .before .before .before .before .before .before .before .before .before .before .before .before .before .before .before .before .before .before .before .before .before .before .before .before .before .loop-test, c .before .before .before .before .before .before .before .before .before .before .before .before .before .before .before .before .before .before .before .before .before .before .before .before .before .before .before .before .before .before .before .before .before))
@@ -93,7 +93,7 @@ run-spec =
       omega (arith, sent .send .ensures .0, sent .send .kept .1 .1 .1 .1 .1 .0, fits),
       sent .send .kept .1 .1 .1 .1 .1 .0 ∙ l .inv .2,
       sound-by (c .before .before .before .before .step .ensures) (stepped-by-sound (l .inv .3) _ _),
-      ran-turn (a .rows) (a .bytes .now) (l .i) (l .at) w (l .reply) (omega (arith, tested .loop-test)) (chosen .action-for .ensures) fits (sent .send .ensures .0) (c .before .before .before .before .step .ensures) (sent .send .ensures .1) ∙ l .inv .4,
+      fedOn-turn (a .rows) (a .bytes .now) (l .i) (l .at) w (l .reply) (omega (arith, tested .loop-test)) (chosen .action-for .ensures) fits (sent .send .ensures .0) (c .before .before .before .before .step .ensures) (sent .send .ensures .1) ∙ l .inv .4,
     ))
     (λ c. c .before .loop .inv .3 .chars-long ∙ sym (c .before .before .before .before .before .before .before .pre .chars-long))
     (λ c. c .before .loop .inv .3 .attrs-long ∙ sym (c .before .before .before .before .before .before .before .pre .attrs-long))
@@ -103,4 +103,4 @@ run-spec =
     let a = c .before .before .before .before .before .before .before .args in
     let w = world (l .u) (l .chars) (l .attrs) in
     let e : length (a .bytes .now) ≡ l .i = omega (arith, c .loop-test, l .inv .0) in
-    ap (λ (n : ℕ). hosted 0 n (l .at) w (l .reply)) e ∙ ran-end (a .rows) (a .bytes .now) (l .i) (l .at) w (l .reply) (sym e) ∙ l .inv .4))
+    ap (λ (n : ℕ). hosted 0 n (l .at) w (l .reply)) e ∙ fedOn-end (a .rows) (a .bytes .now) (l .i) (l .at) w (l .reply) (sym e) ∙ l .inv .4))
