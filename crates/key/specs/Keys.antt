@@ -11,34 +11,38 @@ use Rattle.cursor.specs.Cursor.{cellOf}
 use Rattle.cells.specs.Range.{within}
 use Rattle.fields.specs.Fields.{marks, kindAt, target, allowed}
 use Rattle.reading.specs.Action as Action
+use Rattle.reading.specs.Reading.{listed}
 use Rattle.terminal.specs.State.{World, world, isGood, isSized, barred}
 use Rattle.terminal.specs.Acts.{acted}
 use Rattle.terminal.specs.Refusals.{_when_, firstRefusal}
 use Rattle.key.specs.declared.KeyAnswer.{KeyAnswer}
 
--- the action of each listed code, that of its host byte: 266 changes insert mode over, 273 is ENTER; `rest` for a code not listed
+-- the codes that are not text, each with the action of its host byte: 266 changes insert mode over, 273 is ENTER
+abbrev pub keyActions : Bool → List (ℕ × ℕ)
+keyActions insert =
+    (256, Action.up)
+    ∷ (257, Action.down)
+    ∷ (258, Action.right)
+    ∷ (259, Action.left)
+    ∷ (260, Action.home)
+    ∷ (261, Action.homeDown)
+    ∷ (262, Action.tab)
+    ∷ (263, Action.backTab)
+    ∷ (264, Action.clearDisplay)
+    ∷ (265, Action.clearLine)
+    ∷ (266, cond insert Action.insertOff Action.insertOn)
+    ∷ (267, Action.deleteChar)
+    ∷ (268, Action.column0)
+    ∷ (269, Action.rollUp)
+    ∷ (270, Action.rollDown)
+    ∷ (271, Action.nextPage)
+    ∷ (272, Action.prevPage)
+    ∷ (273, Action.askBlock)
+    ∷ []
+
+-- 32 to 126 text, then the list; `rest` for a code that is not listed
 unfoldable pub keyAction : ℕ → Bool → ℕ
-keyAction code insert =
-    cond (within 32 126 code) Action.text
-    (cond (eqb code 256) Action.up
-    (cond (eqb code 257) Action.down
-    (cond (eqb code 258) Action.right
-    (cond (eqb code 259) Action.left
-    (cond (eqb code 260) Action.home
-    (cond (eqb code 261) Action.homeDown
-    (cond (eqb code 262) Action.tab
-    (cond (eqb code 263) Action.backTab
-    (cond (eqb code 264) Action.clearDisplay
-    (cond (eqb code 265) Action.clearLine
-    (cond (eqb code 266) (cond insert Action.insertOff Action.insertOn)
-    (cond (eqb code 267) Action.deleteChar
-    (cond (eqb code 268) Action.column0
-    (cond (eqb code 269) Action.rollUp
-    (cond (eqb code 270) Action.rollDown
-    (cond (eqb code 271) Action.nextPage
-    (cond (eqb code 272) Action.prevPage
-    (cond (eqb code 273) Action.askBlock
-    Action.rest))))))))))))))))))
+keyAction code insert = cond (within 32 126 code) Action.text (listed (keyActions insert) Action.rest code)
 
 abbrev pub enter : ℕ
 enter = 273

@@ -84,10 +84,12 @@ fn refuse(t: Terminal, rows: usize, chars: &[u8], attrs: &[u8], code: u16, room:
     if !t.is_good(rows) {
         return 2;
     }
-    if action_of(code, t.insert) == reading::REST {
+    let unlisted = action_of(code, t.insert) == reading::REST;
+    let barred = t.is_barred();
+    if unlisted {
         return 3;
     }
-    if t.is_barred() {
+    if barred {
         return 4;
     }
     if is_text(code) {
