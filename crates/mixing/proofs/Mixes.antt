@@ -1,5 +1,4 @@
--- The mixes of some keys and posts are the lists with those keys in order, and for each field those posts in order: `mixed-keys` and `mixed-posts` one way,
--- `complete` the other, so that `Mixed` leaves none out. Assumes nothing.
+-- `Mixed` leaves no mix out and lets nothing else in (`mixed-exactly`): `mixed-keys` and `mixed-posts` one way, `complete` the other. Assumes nothing.
 use mathlib.Core.Path.{_≡_, refl, sym, ap, _∙_, subst}
 use mathlib.Core.Bool.{Bool, true, false, cond}
 use mathlib.Core.List.{List, [], _∷_}
@@ -7,7 +6,7 @@ use Prim.Native.Nat.{ℕ}
 use lib.Dec.{eqb}
 use borrow.Author.Tests.{eqb-true, eqb-false, eq-eqb}
 use Rattle.mixing.specs.Event.{Event, key, post, keysOf, postsTo}
-use Rattle.mixing.specs.Mix.{Post, Takes, here, later, Mixed, done, a-key, a-post, textsTo, Unnamed}
+use Rattle.mixing.specs.Mix.{Post, Takes, here, later, Mixed, done, a-key, a-post, textsTo, Unnamed, MixedExactly}
 use Rattle.mixing.proofs.Events.{cons-not-nil}
 
 module _ {T : Type 0} where
@@ -67,7 +66,7 @@ module _ {T : Type 0} where
   no-posts (p ∷ ps) h = absurd (cons-not-nil (p .text) (textsTo (p .field) ps) (sym (rw (eq-eqb (p .field) (p .field) refl) at (h (p .field)))))
 
 -- and every list that has them so is a mix
-pub complete : {K T : Type 0} (es : List (Event K T)) (ps : List (Post T)) → ((f : ℕ) → postsTo f es ≡ textsTo f ps) → Mixed (keysOf es) ps es
+complete : {K T : Type 0} (es : List (Event K T)) (ps : List (Post T)) → ((f : ℕ) → postsTo f es ≡ textsTo f ps) → Mixed (keysOf es) ps es
 complete {K} {T} [] ps h = subst (λ (r : List (Post T)). Mixed {K = K} [] r []) (no-posts ps h) done
 complete (key k ∷ es) ps h = a-key (complete es ps h)
 complete {K} {T} (post f t ∷ es) ps h = a-post {p = p} (out .1) (complete es (out .0) (λ g. rest g (eqb f g) refl (h g) (takes-texts p g (out .1))))
@@ -82,3 +81,9 @@ complete {K} {T} (post f t ∷ es) ps h = a-post {p = p} (out .1) (complete es (
         → postsTo g es ≡ textsTo g (out .0)
     rest g true e u v = let w : t ∷ postsTo g es ≡ t ∷ textsTo g (out .0) = rw e at (u ∙ v) in cc
     rest g false e u v = rw e at (u ∙ v)
+
+pub mixed-exactly : MixedExactly
+mixed-exactly K T ks ps es = (
+  λ m. (mixed-keys m, λ f. mixed-posts f m),
+  λ h. rw (h .0) at (complete es ps (h .1)),
+)

@@ -1,11 +1,12 @@
--- The mixing promise: which lists of events are mixes of given keys and posts (`Mixed`), when the keys keep apart from the posts (`Apart`), what two mixes
--- share (`Agree`). Nothing here knows the terminal: a step, an answer and a reach are parameters. Assumes nothing.
+-- The mixing promise: which lists of events are mixes of given keys and posts (`Mixed`, `MixedExactly`), when the keys keep apart from the posts (`Apart`), what
+-- two mixes share (`Agree`). Nothing here knows the terminal: a step, an answer and a reach are parameters. Assumes nothing.
 use mathlib.Core.Path.{_≡_}
 use mathlib.Core.Bool.{cond}
+use mathlib.Core.Logic.{_↔_}
 use mathlib.Core.List.{List, [], _∷_}
 use Prim.Native.Nat.{ℕ}
 use lib.Dec.{eqb}
-use Rattle.mixing.specs.Event.{Event, key, post, run, answers, isKey, isPost}
+use Rattle.mixing.specs.Event.{Event, key, post, run, answers, isKey, isPost, keysOf, postsTo}
 
 pub record Post (T : Type 0) : Type 0 where
   pub field : ℕ
@@ -32,6 +33,13 @@ module _ {T : Type 0} where
     a-key : {k : K} {ks : List K} {ps : List (Post T)} {es : List (Event K T)} → Mixed ks ps es → Mixed (k ∷ ks) ps (key k ∷ es)
     a-post : {p : Post T} {ks : List K} {ps qs : List (Post T)} {es : List (Event K T)}
         → Takes p ps qs → Mixed ks qs es → Mixed ks ps (post (p .field) (p .text) ∷ es)
+
+-- `Mixed` leaves no mix out and lets nothing else in: es is a mix of ks and ps exactly when its keys are ks, in order, and its posts to each field those of ps,
+-- in order
+abbrev pub MixedExactly : Type 1
+MixedExactly =
+    (K T : Type 0) (ks : List K) (ps : List (Post T)) (es : List (Event K T))
+    → Mixed ks ps es ↔ ((keysOf es ≡ ks) × ((f : ℕ) → postsTo f es ≡ textsTo f ps))
 
 -- each key is allowed, and where the keys alone have come to from x, it reaches no field that a post of ps names
 abbrev pub Apart : {K T X : Type 0} → (Event K T → X → X) → (K → X → ℕ → Type 0) → (K → Type 0) → List (Post T) → List K → X → Type 0
