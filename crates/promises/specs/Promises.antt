@@ -1,0 +1,53 @@
+-- All that is promised of a terminal of `rows` rows: one record, a field a promise, in the order of docs/PROMISES.md. Assumes nothing.
+use Prim.Native.Nat.{ℕ}
+use Rattle.cases.specs.Cases.{CasesHold}
+use Rattle.mixing.specs.Mix.{MixedExactly}
+use Rattle.promises.specs.Refusals.{FreshRefusals, KeyRefusals, PostRefusals, HostRefusals, FreshGood, GoodStays}
+use Rattle.promises.specs.Once.{FreshOnce, KeyOnce, PostOnce, HostOnce}
+use Rattle.promises.specs.Numbers.{FreshNumbers, KeyNumbers, PostNumbers, HostNumbers}
+use Rattle.promises.specs.Accepted.{PostWrites}
+use Rattle.promises.specs.Protected.{ProtectedStay}
+use Rattle.promises.specs.Mixing.{MixesAgree}
+use Rattle.promises.specs.Form.{FormCovered, LockedCovered, PendingCovered, BareCovered, ReachNeeded, EnterBars, PostsKeepOrder, OrderShows}
+
+pub record Promises (rows : ℕ) : Type 1 where
+  -- ---- 1. nothing that comes in can break it
+  -- bad input is refused by document 01's numbers, and a refusal changes nothing
+  pub fresh-refusals : FreshRefusals rows
+  pub key-refusals : KeyRefusals rows
+  pub post-refusals : PostRefusals rows
+  pub host-refusals : HostRefusals rows
+  -- a good state stays good, and so the cursor never leaves display memory
+  pub fresh-good : FreshGood rows
+  pub good-stays : GoodStays rows
+  -- ---- 2. it does what the rules say
+  -- a contract leaves no choice
+  pub fresh-once : FreshOnce rows
+  pub key-once : KeyOnce rows
+  pub post-once : PostOnce rows
+  pub host-once : HostOnce rows
+  -- each number is given exactly when document 01's table says
+  pub fresh-numbers : FreshNumbers rows
+  pub key-numbers : KeyNumbers rows
+  pub post-numbers : PostNumbers rows
+  pub host-numbers : HostNumbers rows
+  -- an accepted post writes its field and nothing else
+  pub post-writes : PostWrites rows
+  -- while format mode stays on, no protected cell changes its character
+  pub protected-stay : ProtectedStay rows
+  -- document 01's own cases
+  pub cases-hold : CasesHold rows
+  -- ---- 3. two tags cannot get in each other's way
+  -- every mix ends alike and gives the same answers, and no mix is left out
+  pub mixes-agree : MixesAgree rows
+  pub mixed-exactly : MixedExactly
+  -- the promise is not empty
+  pub form-covered : FormCovered rows
+  pub locked-covered : LockedCovered rows
+  pub pending-covered : PendingCovered rows
+  pub bare-covered : BareCovered rows
+  -- its conditions are needed
+  pub reach-needed : ReachNeeded rows
+  pub enter-bars : EnterBars rows
+  pub posts-keep-order : PostsKeepOrder rows
+  pub order-shows : OrderShows rows
