@@ -1,15 +1,15 @@
 -- All of document 01's cases hold: the checker computes them. Assumes nothing.
 use mathlib.Core.Path.{_≡_, refl}
 use mathlib.Core.List.{[]}
-use Rattle.cells.specs.Search.{firstOf, lastOf, countOf, nthOf, firstIn, lastIn, countIn}
+use Rattle.cells.specs.Search.{firstOf, lastOf, allOf, countOf, nthOf, firstIn, lastIn, countIn}
 use Rattle.cells.specs.Memory.{patchFrom, patch, filled, shiftedRight, shiftedLeft, filledWhereFrom, filledWhere, movedUp, movedDown, written, posted}
 use Rattle.cursor.specs.Cursor.{gone, atCell, goneUp, goneDown, goneLeft, goneRight, inColumn, homeAt, risen, fallen, isPlaced}
 use Rattle.cursor.specs.Addressing.{aimed, heldTo, toColumn, toRow, toWindowRow}
 use Rattle.cursor.specs.Stops.{tabbed, backTabbed}
-use Rattle.fields.specs.Fields.{marks, isIn, fieldEnd, kindsFrom, kinds, kindAt, unprotected, firstStart, nextStart, prevStart, nthField, fieldNumber, holds, target, letter, digit, allowed, rowUnderText}
+use Rattle.fields.specs.Fields.{marks, isIn, fieldEnd, kindAt, unprotected, firstStart, nextStart, prevStart, nthField, fieldNumber, holds, target, letter, digit, allowed, rowUnderText}
 use Rattle.reading.specs.Reading.{actionOf, unbegun, settled, counted, nextReading, soundNumber}
 use Rattle.screen.specs.Edits.{scrolled, lineFed, homed, homedDown, goneFound, tabbedIn, backTabbedIn, put, onward, typedFree, cellAfter, typedAt, typedIn, typed, displayCleared, lineCleared, charDeleted, rowInserted, rowDeleted, markSet, markTurned, enhanced}
-use Rattle.replies.specs.Replies.{digits, cursorReply, statusReply, fieldsFrom, fieldsReply, rowReply, blockReply}
+use Rattle.replies.specs.Replies.{digits, cursorReply, statusReply, fieldText, joined, fieldsReply, rowReply, blockReply}
 use Rattle.terminal.specs.State.{freshWorld, isGood, isSized, barred}
 use Rattle.terminal.specs.Acts.{switched, tabbedBy, backTabbedBy, steered, stamps, stamped, acted}
 use Rattle.terminal.specs.Refusals.{firstRefusal}
@@ -20,5 +20,5 @@ use Rattle.cases.specs.Cases.{same, sameStops, sameState, sameMemory, sa
 
 -- no case fails on 48 rows
 pub cases-hold : CasesHold 48
-unfolding firstOf lastOf countOf nthOf firstIn lastIn countIn patchFrom patch filled shiftedRight shiftedLeft filledWhereFrom filledWhere movedUp movedDown written posted gone atCell goneUp goneDown goneLeft goneRight inColumn homeAt risen fallen isPlaced aimed heldTo toColumn toRow toWindowRow tabbed backTabbed marks isIn fieldEnd kindsFrom kinds kindAt unprotected firstStart nextStart prevStart nthField fieldNumber holds target letter digit allowed rowUnderText actionOf unbegun settled counted nextReading soundNumber scrolled lineFed homed homedDown goneFound tabbedIn backTabbedIn put onward typedFree cellAfter typedAt typedIn typed displayCleared lineCleared charDeleted rowInserted rowDeleted markSet markTurned enhanced digits cursorReply statusReply fieldsFrom fieldsReply rowReply blockReply freshWorld isGood isSized barred switched tabbedBy backTabbedBy steered stamps stamped acted keyAction firstRefusal disallows keyRefusal keyDone keyed fits allFit tooLong misfits postRefusal postedAt postedTo actionFor readOn steppedBy stepped pendingReply replyTo answerTo fedOn hostRefusal fed same sameStops sameState sameMemory sameWorld standsAt start room after answers cases failing
+unfolding firstOf lastOf allOf countOf nthOf firstIn lastIn countIn patchFrom patch filled shiftedRight shiftedLeft filledWhereFrom filledWhere movedUp movedDown written posted gone atCell goneUp goneDown goneLeft goneRight inColumn homeAt risen fallen isPlaced aimed heldTo toColumn toRow toWindowRow tabbed backTabbed marks isIn fieldEnd kindAt unprotected firstStart nextStart prevStart nthField fieldNumber holds target letter digit allowed rowUnderText actionOf unbegun settled counted nextReading soundNumber scrolled lineFed homed homedDown goneFound tabbedIn backTabbedIn put onward typedFree cellAfter typedAt typedIn typed displayCleared lineCleared charDeleted rowInserted rowDeleted markSet markTurned enhanced digits cursorReply statusReply fieldText joined fieldsReply rowReply blockReply freshWorld isGood isSized barred switched tabbedBy backTabbedBy steered stamps stamped acted keyAction firstRefusal disallows keyRefusal keyDone keyed fits allFit tooLong misfits postRefusal postedAt postedTo actionFor readOn steppedBy stepped pendingReply replyTo answerTo fedOn hostRefusal fed same sameStops sameState sameMemory sameWorld standsAt start room after answers cases failing
 cases-hold = refl

@@ -1,4 +1,5 @@
 -- The laws of byte memories.
+pub mod Finds
 pub mod Search
 pub mod Patch
 pub mod Splice

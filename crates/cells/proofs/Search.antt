@@ -15,7 +15,7 @@ use lib.Seq.{slice, slice-cons, length-slice, take-take, drop-append-le, length-
 use Rattle.cells.specs.declared.Found.{Found}
 use Rattle.cells.specs.declared.Found.the-variants.{At, Nothing}
 use Rattle.cells.specs.Search.{orElse, firstOf, lastOf, countOf, nthOf, firstIn, lastIn, countIn}
-use Rattle.cells.specs.Finds.{NoneIn, NthIs, FindsFirst, FindsLast, FindsNth}
+use Rattle.cells.proofs.Finds.{NoneIn, NthIs, FindsFirst, FindsLast, FindsNth}
 
 pub not-both : {b : Bool} → b ≡ true → b ≡ false → ⊥
 not-both s t = let z : _≡_ {A = ℕ} 0 1 = cc in omega arith

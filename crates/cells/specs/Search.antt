@@ -1,4 +1,4 @@
--- Searches of a memory: the first, the last, the n-th and the number of the cells whose value passes a test. Each walks the list once.
+-- Searches of a memory: the first, the last, all, the n-th and the number of the cells whose value passes a test. Each walks the list once.
 -- Assumes nothing.
 use Prim.Native.Nat.{ℕ, suc, _-_}
 use mathlib.Core.Bool.{Bool, true, false, cond}
@@ -33,6 +33,13 @@ module _ {A : Type 0} where
   unfoldable pub lastOf : (A → Bool) → ℕ → List A → Found
   lastOf p i [] = Nothing
   lastOf p i (x ∷ xs) = orElse (lastOf p (suc i) xs) (cond (p x) (At i) Nothing)
+
+  -- all that pass, in order
+  unfoldable pub allOf : (A → Bool) → ℕ → List A → List ℕ
+  allOf p i [] = []
+  allOf p i (x ∷ xs) =
+      let rest = allOf p (suc i) xs in
+      cond (p x) (i ∷ rest) rest
 
   -- how many pass
   unfoldable pub countOf : (A → Bool) → List A → ℕ

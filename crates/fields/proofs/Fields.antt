@@ -1,4 +1,4 @@
--- Fields: where a field ends, that all its cells have one kind and one end, and that a cell belongs to one field at most.
+-- Fields: where a field ends, which cells it has, that all its cells have one kind and one end, and that a cell belongs to one field at most.
 -- Assumes nothing.
 use Prim.Native.Nat.{ℕ, zero, suc, _+_, _-_, _*_, _/_, _%_, _≤_, _<_}
 use mathlib.Core.Path.{_≡_, refl, ap, sym, _∙_}
@@ -10,9 +10,9 @@ use lib.ListN.{length, getD, List·getD-eq-default}
 use Rattle.cells.specs.declared.Found.{Found}
 use Rattle.cells.specs.declared.Found.the-variants.{At, Nothing}
 use Rattle.cells.specs.Search.{atOr, firstIn}
-use Rattle.cells.specs.Finds.{FindsFirst}
+use Rattle.cells.proofs.Finds.{FindsFirst}
 use Rattle.cells.proofs.Search.{not-both, first-cut, first-finds}
-use Rattle.fields.specs.Fields.{isIn, rowEnd, fieldEnd, kindAt, unprotected, InField}
+use Rattle.fields.specs.Fields.{isIn, rowEnd, fieldEnd, kindAt, unprotected}
 use Rattle.fields.proofs.Marks.{in-low, in-more, out-low, marked-inside}
 use Rattle.fields.proofs.Kind.{kind-past, kind-marked, kind-first, kind-later, kind-along}
 
@@ -57,7 +57,13 @@ one-end {ms} {cell} {e} {f} a b =
 pub end-inside : (ms : List ℕ) (rows cell : ℕ) → length ms ≡ rows * 80 → cell < length ms → fieldEnd ms cell ≤ length ms
 end-inside ms rows cell n h = omega (arith, field-ends ms cell .within)
 
--- so all cells of a field lie in it
+-- ---- the cell belongs to the field that starts at start
+pub record InField (ms : List ℕ) (start cell : ℕ) : Type 0 where
+  pub starts : isIn 4 (getD ms start 0) ≡ true
+  pub from : start ≤ cell
+  pub upto : cell < fieldEnd ms start
+
+-- all cells of a field lie in a memory of whole rows
 pub field-inside : (ms : List ℕ) (rows start cell : ℕ) → length ms ≡ rows * 80 → InField ms start cell → cell < length ms
 field-inside ms rows start cell n f = omega (arith, end-inside ms rows start n (marked-inside 4 ms start (f .starts)), f .upto)
 
@@ -77,12 +83,12 @@ module _ (ms : List ℕ) (t k : ℕ) (from : t ≤ k) (upto : k < fieldEnd ms t)
   pub row-in : k / 80 ≡ t / 80
   row-in = omega (arith, field-ends ms t .within)
 
-  pub kind-in : k < length ms → kindAt ms k ≡ kindAt ms t
-  kind-in h = kind-along ms t k from (omega (arith, field-ends ms t .within)) h (λ j a b. field-ends ms t .none j a (omega arith))
+  pub kind-in : kindAt ms k ≡ kindAt ms t
+  kind-in = kind-along ms t k from (omega (arith, field-ends ms t .within)) (λ j a b. field-ends ms t .none j a (omega arith))
 
-  pub unprotected-in : k < length ms → unprotected ms k ≡ unprotected ms t
+  pub unprotected-in : unprotected ms k ≡ unprotected ms t
   unfolding unprotected
-  unprotected-in h = ap (isIn 3) (kind-in h)
+  unprotected-in = ap (isIn 3) kind-in
 
   pub end-in : fieldEnd ms k ≡ fieldEnd ms t
   end-in = one-end (field-ends ms k) same
@@ -93,17 +99,14 @@ module _ (ms : List ℕ) (t k : ℕ) (from : t ≤ k) (upto : k < fieldEnd ms t)
       same : Ends ms k (fieldEnd ms t)
       same = record { past = upto; within = omega (arith, r .within); none = λ j a b. r .none j (omega arith) b; stop = λ l. r .stop (omega (arith, r .within)) }
 
--- ---- a cell with a kind lies in the memory
-pub kind-inside : (top : ℕ) (ms : List ℕ) (cell : ℕ) → isIn top (kindAt ms cell) ≡ true → cell < length ms
-kind-inside top ms cell t = go (decLt cell (length ms))
+-- ---- an unprotected cell lies in a memory of whole rows
+pub unprotected-inside : (ms : List ℕ) (rows cell : ℕ) → length ms ≡ rows * 80 → unprotected ms cell ≡ true → cell < length ms
+unfolding unprotected
+unprotected-inside ms rows cell n t = go (decLt cell (length ms))
   where
     go : Dec (cell < length ms) → cell < length ms
     go (yes h) = h
-    go (no h) = omega (arith, in-low top (kindAt ms cell) t, kind-past ms cell (omega arith))
-
-pub unprotected-inside : (ms : List ℕ) (cell : ℕ) → unprotected ms cell ≡ true → cell < length ms
-unfolding unprotected
-unprotected-inside ms cell t = kind-inside 3 ms cell t
+    go (no h) = omega (arith, in-low 3 (kindAt ms cell) t, kind-past ms cell rows n (omega arith))
 
 -- ---- a field's start: it belongs to its field, has its mark's kind, and is unprotected where that is 1 to 3
 pub start-in : (ms : List ℕ) (start : ℕ) → isIn 4 (getD ms start 0) ≡ true → InField ms start start
@@ -114,8 +117,8 @@ unfolding unprotected
 start-unprotected ms start t = ap (isIn 3) (kind-marked ms start (in-more 3 5 (getD ms start 0) (omega arith) t)) ∙ t
 
 -- ---- a cell of a field has the kind that is its start's mark
-pub field-kind : (ms : List ℕ) (start cell : ℕ) → InField ms start cell → cell < length ms → kindAt ms cell ≡ getD ms start 0
-field-kind ms start cell f h = kind-in ms start cell (f .from) (f .upto) h ∙ kind-marked ms start (in-more 4 5 (getD ms start 0) (omega arith) (f .starts))
+pub field-kind : (ms : List ℕ) (start cell : ℕ) → InField ms start cell → kindAt ms cell ≡ getD ms start 0
+field-kind ms start cell f = kind-in ms start cell (f .from) (f .upto) ∙ kind-marked ms start (in-more 4 5 (getD ms start 0) (omega arith) (f .starts))
 
 -- ---- a cell belongs to one field at most
 before-not : (ms : List ℕ) (s t cell : ℕ) → InField ms s cell → InField ms t cell → s < t → ⊥
@@ -151,7 +154,7 @@ kind-field ms (suc cell) t = go (isIn 5 (getD ms (suc cell) 0)) refl (ℕ-discre
         e = omega arith
 
         same : kindAt ms (suc cell) ≡ kindAt ms cell
-        same = kind-later ms (suc cell) (kind-inside 4 ms (suc cell) t) u z ∙ ap (kindAt ms) e
+        same = kind-later ms (suc cell) u z ∙ ap (kindAt ms) e
 
         r : (start : ℕ) × InField ms start cell
         r = ih (ap (isIn 4) (sym same) ∙ t)
@@ -172,4 +175,4 @@ pub unprotected-field : (ms : List ℕ) (cell : ℕ) → unprotected ms cell ≡
 unfolding unprotected
 unprotected-field ms cell t =
     let r = kind-field ms cell (in-more 3 4 (kindAt ms cell) (omega arith) t) in
-    (r .0, ap (isIn 3) (sym (field-kind ms (r .0) cell (r .1) (kind-inside 3 ms cell t))) ∙ t, r .1)
+    (r .0, ap (isIn 3) (sym (field-kind ms (r .0) cell (r .1))) ∙ t, r .1)

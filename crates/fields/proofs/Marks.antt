@@ -13,36 +13,36 @@ use lib.Seq.{ext-getD, map-set-same}
 use Rattle.fields.specs.Fields.{markOf, marks, isIn}
 
 -- ---- the test against its bounds
-pub in-low : (top mark : ℕ) → isIn top mark ≡ true → 1 ≤ mark
+pub in-low : (highest mark : ℕ) → isIn highest mark ≡ true → 1 ≤ mark
 unfolding isIn
-in-low top mark t = leb-true 1 mark (and-eq-true-iff (leb 1 mark) (leb mark top) .0 t .0)
+in-low highest mark t = leb-true 1 mark (and-eq-true-iff (leb 1 mark) (leb mark highest) .0 t .0)
 
-pub in-high : (top mark : ℕ) → isIn top mark ≡ true → mark ≤ top
+pub in-high : (highest mark : ℕ) → isIn highest mark ≡ true → mark ≤ highest
 unfolding isIn
-in-high top mark t = leb-true mark top (and-eq-true-iff (leb 1 mark) (leb mark top) .0 t .1)
+in-high highest mark t = leb-true mark highest (and-eq-true-iff (leb 1 mark) (leb mark highest) .0 t .1)
 
-pub is-in : (top mark : ℕ) → 1 ≤ mark → mark ≤ top → isIn top mark ≡ true
+pub is-in : (highest mark : ℕ) → 1 ≤ mark → mark ≤ highest → isIn highest mark ≡ true
 unfolding isIn
-is-in top mark a b = rw (le-leb 1 mark a, le-leb mark top b)
+is-in highest mark a b = rw (le-leb 1 mark a, le-leb mark highest b)
 
-pub out-low : (top : ℕ) → isIn top 0 ≡ false
+pub out-low : (highest : ℕ) → isIn highest 0 ≡ false
 unfolding isIn
-out-low top = refl
+out-low highest = refl
 
-pub out-high : (top mark : ℕ) → top < mark → isIn top mark ≡ false
+pub out-high : (highest mark : ℕ) → highest < mark → isIn highest mark ≡ false
 unfolding isIn
-out-high top mark h = rw (lt-leb mark top h) (and-false (leb 1 mark))
+out-high highest mark h = rw (lt-leb mark highest h) (and-false (leb 1 mark))
 
-pub in-more : (top wider mark : ℕ) → top ≤ wider → isIn top mark ≡ true → isIn wider mark ≡ true
-in-more top wider mark l t = is-in wider mark (in-low top mark t) (omega (arith, in-high top mark t))
+pub in-more : (highest wider mark : ℕ) → highest ≤ wider → isIn highest mark ≡ true → isIn wider mark ≡ true
+in-more highest wider mark l t = is-in wider mark (in-low highest mark t) (omega (arith, in-high highest mark t))
 
 -- a marked cell lies in the memory
-pub marked-inside : (top : ℕ) (ms : List ℕ) (cell : ℕ) → isIn top (getD ms cell 0) ≡ true → cell < length ms
-marked-inside top ms cell t = go (decLt cell (length ms))
+pub marked-inside : (highest : ℕ) (ms : List ℕ) (cell : ℕ) → isIn highest (getD ms cell 0) ≡ true → cell < length ms
+marked-inside highest ms cell t = go (decLt cell (length ms))
   where
     go : Dec (cell < length ms) → cell < length ms
     go (yes h) = h
-    go (no h) = omega (arith, in-low top (getD ms cell 0) t, List·getD-eq-default ms 0 {n = cell} (omega arith))
+    go (no h) = omega (arith, in-low highest (getD ms cell 0) t, List·getD-eq-default ms 0 {n = cell} (omega arith))
 
 -- ---- the marks of a memory, cell by cell
 pub mark-of : (enhancement mark : ℕ) → mark < 16 → markOf (16 * enhancement + mark) ≡ mark

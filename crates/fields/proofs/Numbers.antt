@@ -5,18 +5,18 @@ use mathlib.Core.Path.{_≡_, refl, ap, sym, _∙_}
 use mathlib.Core.Bool.{Bool, true, false, and-eq-true-iff}
 use mathlib.Core.List.{List}
 use native.Mathlib.Omega.{arith}
-use native.Mathlib.Decide.{le-ind}
+use native.Mathlib.Decide.{decLt, le-ind}
 use lib.Dec.{eqb}
 use borrow.Author.Tests.{eq-eqb, eqb-true}
 use lib.ListN.{length, getD}
 use Rattle.cells.specs.declared.Found.{Found}
 use Rattle.cells.specs.declared.Found.the-variants.{At, Nothing}
 use Rattle.cells.specs.Search.{nthOf, countIn}
-use Rattle.cells.specs.Finds.{NthIs, FindsNth}
-use Rattle.cells.proofs.Search.{not-both, count-hit, count-miss, count-alike, count-all, nth-finds, nth-is, nth-found}
-use Rattle.fields.specs.Fields.{isIn, fieldEnd, unprotected, InField, nthField, fieldNumber, holds}
+use Rattle.cells.proofs.Finds.{NthIs, FindsNth}
+use Rattle.cells.proofs.Search.{not-both, count-hit, count-miss, count-cut, count-alike, count-all, nth-finds, nth-is, nth-found}
+use Rattle.fields.specs.Fields.{isIn, fieldEnd, unprotected, nthField, fieldNumber, holds}
 use Rattle.fields.proofs.Marks.{in-high, in-more, marked-inside}
-use Rattle.fields.proofs.Fields.{field-ends, unprotected-in, unprotected-inside, unprotected-field, start-unprotected}
+use Rattle.fields.proofs.Fields.{InField, field-ends, unprotected-in, unprotected-field, start-unprotected}
 use Rattle.fields.proofs.Starts.{nth-is-start}
 
 module _ (ms : List ℕ) where
@@ -25,24 +25,28 @@ module _ (ms : List ℕ) where
   unfolding fieldNumber
   number-start start t = omega (arith, count-hit (isIn 3) 0 ms 0 start (omega arith) (marked-inside 3 ms start t) t)
 
-  pub number-kept : (cell : ℕ) → cell < length ms → isIn 3 (getD ms cell 0) ≡ false → fieldNumber ms cell ≡ fieldNumber ms (cell - 1)
+  pub number-kept : (cell : ℕ) → isIn 3 (getD ms cell 0) ≡ false → fieldNumber ms cell ≡ fieldNumber ms (cell - 1)
   unfolding fieldNumber
-  number-kept zero h t = refl
-  number-kept (suc cell) h t =
+  number-kept zero t = refl
+  number-kept (suc cell) t =
       let e : suc cell ≡ suc cell - 1 + 1 = omega arith in
-      ap (λ (n : ℕ). n - 1) (count-miss (isIn 3) 0 ms 0 (suc cell) (omega arith) h t ∙ ap (countIn (isIn 3) ms 0) e)
+      ap (λ (n : ℕ). n - 1) (go (decLt (suc cell) (length ms)) ∙ ap (countIn (isIn 3) ms 0) e)
+    where
+      go : Dec (suc cell < length ms) → countIn (isIn 3) ms 0 (suc cell + 1) ≡ countIn (isIn 3) ms 0 (suc cell)
+      go (yes h) = count-miss (isIn 3) 0 ms 0 (suc cell) (omega arith) h t
+      go (no h) = count-cut (isIn 3) ms 0 (suc cell + 1) (omega arith) ∙ sym (count-cut (isIn 3) ms 0 (suc cell) (omega arith))
 
   -- a transmit-only field is not counted: its start keeps the number of the cell before it, and is no field that posts find
   pub transmit-kept : (start : ℕ) → getD ms start 0 ≡ 4 → fieldNumber ms start ≡ fieldNumber ms (start - 1)
   unfolding isIn
-  transmit-kept start e = number-kept start (marked-inside 4 ms start (ap (isIn 4) e)) (ap (isIn 3) e)
+  transmit-kept start e = number-kept start (ap (isIn 3) e)
 
   pub transmit-not-found : (n start : ℕ) → nthField ms n ≡ At start → getD ms start 0 ≡ 4 → ⊥
   transmit-not-found n start e f = omega (arith, in-high 3 (getD ms start 0) (nth-is-start ms n start e))
 
   -- ---- the cells from t up to the field's end have one number
-  pub number-in : (t k : ℕ) → t ≤ k → k < fieldEnd ms t → k < length ms → fieldNumber ms k ≡ fieldNumber ms t
-  number-in t k l u h = le-ind (λ (m : ℕ). m ≤ k → fieldNumber ms m ≡ fieldNumber ms t) (λ _. refl) step k l (omega arith)
+  pub number-in : (t k : ℕ) → t ≤ k → k < fieldEnd ms t → fieldNumber ms k ≡ fieldNumber ms t
+  number-in t k l u = le-ind (λ (m : ℕ). m ≤ k → fieldNumber ms m ≡ fieldNumber ms t) (λ _. refl) step k l (omega arith)
     where
       unmarked : (j : ℕ) → t < j → j ≤ k → (b : Bool) → isIn 3 (getD ms j 0) ≡ b → b ≡ false
       unmarked j a c true s = absurd (not-both (in-more 3 5 (getD ms j 0) (omega arith) s) (field-ends ms t .none j a (omega arith)))
@@ -51,7 +55,7 @@ module _ (ms : List ℕ) where
       step : (m : ℕ) → t ≤ m → (m ≤ k → fieldNumber ms m ≡ fieldNumber ms t) → suc m ≤ k → fieldNumber ms (suc m) ≡ fieldNumber ms t
       step m a ih b =
           let e : suc m - 1 ≡ m = omega arith in
-          number-kept (suc m) (omega arith) (unmarked (suc m) (omega arith) b (isIn 3 (getD ms (suc m) 0)) refl)
+          number-kept (suc m) (unmarked (suc m) (omega arith) b (isIn 3 (getD ms (suc m) 0)) refl)
           ∙ ap (fieldNumber ms) e
           ∙ ih (omega arith)
 
@@ -71,8 +75,7 @@ module _ (ms : List ℕ) where
   number-nth cell t =
       let f = unprotected-field ms cell t in
       let i : InField ms (f .0) cell = f .2 in
-      let h : cell < length ms = unprotected-inside ms cell t in
-      (f .0, ap (nthField ms) (number-in (f .0) cell (i .from) (i .upto) h) ∙ start-nth (f .0) (f .1), i .from, i .upto)
+      (f .0, ap (nthField ms) (number-in (f .0) cell (i .from) (i .upto)) ∙ start-nth (f .0) (f .1), i .from, i .upto)
 
   -- ---- field n holds a cell: it is unprotected and has that number
   pub holds-unprotected : (n cell : ℕ) → holds ms n cell ≡ true → unprotected ms cell ≡ true
@@ -92,16 +95,16 @@ module _ (ms : List ℕ) where
   one-holder n m cell a b = sym (holds-number n cell a) ∙ holds-number m cell b
 
   -- a field holds all its cells or none
-  pub holds-in : (n t k : ℕ) → t ≤ k → k < fieldEnd ms t → k < length ms → holds ms n k ≡ holds ms n t
+  pub holds-in : (n t k : ℕ) → t ≤ k → k < fieldEnd ms t → holds ms n k ≡ holds ms n t
   unfolding holds
-  holds-in n t k l u h = rw (unprotected-in ms t k l u h, number-in t k l u h) refl
+  holds-in n t k l u = rw (unprotected-in ms t k l u, number-in t k l u) refl
 
   -- ---- the cells that field n holds are those from its start up to its end
   pub nth-holds : (n start : ℕ) → nthField ms n ≡ At start → holds ms n start ≡ true
   nth-holds n start e = is-held n start (start-unprotected ms start (nth-is-start ms n start e)) (nth-number n start e)
 
-  pub field-holds : (n start cell : ℕ) → nthField ms n ≡ At start → start ≤ cell → cell < fieldEnd ms start → cell < length ms → holds ms n cell ≡ true
-  field-holds n start cell e l u h = holds-in n start cell l u h ∙ nth-holds n start e
+  pub field-holds : (n start cell : ℕ) → nthField ms n ≡ At start → start ≤ cell → cell < fieldEnd ms start → holds ms n cell ≡ true
+  field-holds n start cell e l u = holds-in n start cell l u ∙ nth-holds n start e
 
   pub holds-field : (n cell : ℕ) → holds ms n cell ≡ true → (start : ℕ) × (nthField ms n ≡ At start) × (start ≤ cell) × (cell < fieldEnd ms start)
   holds-field n cell t =

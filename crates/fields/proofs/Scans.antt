@@ -1,4 +1,4 @@
--- What the scans cite: a search of the marks is one of the attribute bytes; the invariants of the walks to a cell's kind; tab, back tab and home down.
+-- What the scans cite: a search of the marks is one of the attribute bytes; a cell's kind, back from the cell and onward; tab, back tab and home down.
 -- Assumes nothing.
 use Prim.Native.Nat.{ℕ, _+_, _-_, _/_, _%_, min, _≤_, _<_}
 use mathlib.Core.Path.{_≡_, refl, ap, sym, _∙_}
@@ -9,57 +9,43 @@ use borrow.Author.Tests.{ne-eqb}
 use lib.Dec.{eqb}
 use lib.ListN.{length, getD}
 use Rattle.cells.specs.Search.{firstIn, lastIn, nthOf}
-use Rattle.cells.proofs.Search.{first-map, last-map, nth-map, first-short, last-short, else-first, else-second, Downto, down-hit}
+use Rattle.cells.proofs.Search.{first-map, last-map, nth-map, first-short, last-short, else-first, else-second, Downto, down-hit, down-end}
 use Rattle.cells.specs.declared.Found.the-variants.{At, Nothing}
-use Rattle.fields.specs.Fields.{markOf, marks, isIn, rowStart, kindAfter, kindAt, unprotected, nextStart, prevStart, nonBlank, rowUnder, rowUnderText}
+use Rattle.fields.specs.Fields.{markOf, marks, isIn, rowStart, markFound, kindAt, unprotected, nextStart, prevStart, nonBlank, rowUnder, rowUnderText}
+use Rattle.fields.specs.Walk.{kindAfter}
 use Rattle.fields.proofs.Marks.{mark-at, length-marks}
-use Rattle.fields.proofs.Kind.{kind-step, kind-marked, kind-first, kind-later}
+use Rattle.fields.proofs.Kind.{kind-step}
 
--- the byte's mark is 1 to top
+-- the byte's mark is 1 to highest
 abbrev pub hasMark : ℕ → ℕ → Bool
-hasMark top a = isIn top (markOf a)
+hasMark highest a = isIn highest (markOf a)
 
-module _ (top : ℕ) (attrs : List ℕ) where
-  pub first-marks : (lo hi : ℕ) → firstIn (hasMark top) attrs lo hi ≡ firstIn (isIn top) (marks attrs) lo hi
+module _ (highest : ℕ) (attrs : List ℕ) where
+  pub first-marks : (lo hi : ℕ) → firstIn (hasMark highest) attrs lo hi ≡ firstIn (isIn highest) (marks attrs) lo hi
   unfolding marks
-  first-marks lo hi = sym (first-map (isIn top) markOf attrs lo hi)
+  first-marks lo hi = sym (first-map (isIn highest) markOf attrs lo hi)
 
-  pub last-marks : (lo hi : ℕ) → lastIn (hasMark top) attrs lo hi ≡ lastIn (isIn top) (marks attrs) lo hi
+  pub last-marks : (lo hi : ℕ) → lastIn (hasMark highest) attrs lo hi ≡ lastIn (isIn highest) (marks attrs) lo hi
   unfolding marks
-  last-marks lo hi = sym (last-map (isIn top) markOf attrs lo hi)
+  last-marks lo hi = sym (last-map (isIn highest) markOf attrs lo hi)
 
-  pub nth-marks : (n : ℕ) → nthOf (hasMark top) n 0 attrs ≡ nthOf (isIn top) n 0 (marks attrs)
+  pub nth-marks : (n : ℕ) → nthOf (hasMark highest) n 0 attrs ≡ nthOf (isIn highest) n 0 (marks attrs)
   unfolding marks
-  nth-marks n = sym (nth-map (isIn top) markOf n 0 attrs)
+  nth-marks n = sym (nth-map (isIn highest) markOf n 0 attrs)
 
--- ---- back from the cell: no mark stands from i up to it, so the cell before i governs it, and no cell where i is its row's first
-pub record Governed (attrs : List ℕ) (cell i : ℕ) : Type 0 where
-  pub within : cell < length attrs
-  pub high : i ≤ cell + 1
-  pub kept : rowStart cell < i → kindAt (marks attrs) cell ≡ kindAt (marks attrs) (i - 1)
-  pub over : i ≤ rowStart cell → kindAt (marks attrs) cell ≡ 0
+-- ---- back from the cell: the first mark met governs it, and none where its row has none up to it
+module _ {attrs : List ℕ} {i : ℕ} (cell : ℕ) (d : Downto (hasMark 5) 0 attrs (rowStart cell) (cell + 1) i) where
+  pub kind-hit : rowStart cell < i → hasMark 5 (getD attrs (i - 1) 0) ≡ true → markOf (getD attrs (i - 1) 0) ≡ kindAt (marks attrs) cell
+  unfolding kindAt
+  kind-hit l t = sym (mark-at attrs (i - 1)) ∙ ap (markFound (marks attrs)) (down-hit {j = i - 1} d (omega arith) t (omega arith) ∙ last-marks 5 attrs (rowStart cell) (cell + 1))
 
-module _ {attrs : List ℕ} {cell : ℕ} where
-  pub governed-start : {i : ℕ} → cell < length attrs → i ≡ cell + 1 → Governed attrs cell i
-  governed-start {i} h e =
-      record { within = h; high = omega arith; kept = λ l. ap (kindAt (marks attrs)) (omega arith); over = λ l. absurd (omega arith) }
-
-  pub governed-hit : {i : ℕ} → Governed attrs cell i → rowStart cell < i → hasMark 5 (getD attrs (i - 1) 0) ≡ true → markOf (getD attrs (i - 1) 0) ≡ kindAt (marks attrs) cell
-  governed-hit {i} g l t = sym (g .kept l ∙ kind-marked (marks attrs) (i - 1) (ap (isIn 5) (mark-at attrs (i - 1)) ∙ t) ∙ mark-at attrs (i - 1))
-
-  pub governed-next : {i : ℕ} → Governed attrs cell i → rowStart cell < i → hasMark 5 (getD attrs (i - 1) 0) ≡ false → Governed attrs cell (i - 1)
-  governed-next {i} g l t =
-      let u : isIn 5 (getD (marks attrs) (i - 1) 0) ≡ false = ap (isIn 5) (mark-at attrs (i - 1)) ∙ t in
-      record {
-        within = g .within;
-        high = omega (arith, g .high);
-        kept = λ k. g .kept l ∙ kind-later (marks attrs) (i - 1) (omega (arith, g .high, g .within, length-marks attrs)) u (λ z. omega (arith, g .high));
-        over = λ k. g .kept l ∙ kind-first (marks attrs) (i - 1) u (omega (arith, g .high));
-      }
+  pub kind-none : i ≤ rowStart cell → 0 ≡ kindAt (marks attrs) cell
+  unfolding kindAt
+  kind-none l = ap (markFound (marks attrs)) (down-end d l ∙ last-marks 5 attrs (rowStart cell) (cell + 1))
 
 -- ---- onward from a cell: the kind at hand, with the mark of cell i, gives the kind of cell i
 pub record Onward (attrs : List ℕ) (i kind : ℕ) : Type 0 where
-  pub gives : i < length attrs → kindAfter i kind (markOf (getD attrs i 0)) ≡ kindAt (marks attrs) i
+  pub gives : kindAfter i kind (markOf (getD attrs i 0)) ≡ kindAt (marks attrs) i
 
 again : (i before m : ℕ) → kindAfter i (kindAfter i before m) m ≡ kindAfter i before m
 again i before m = go (isIn 5 m) (eqb (i % 80) 0)
@@ -69,22 +55,22 @@ again i before m = go (isIn 5 m) (eqb (i % 80) 0)
     go false true = refl
     go false false = refl
 
-at-cell : (attrs : List ℕ) (i : ℕ) → i < length attrs → kindAt (marks attrs) i ≡ kindAfter i (kindAt (marks attrs) (i - 1)) (markOf (getD attrs i 0))
-at-cell attrs i h = kind-step (marks attrs) i (omega (arith, length-marks attrs)) ∙ ap (kindAfter i (kindAt (marks attrs) (i - 1))) (mark-at attrs i)
+at-cell : (attrs : List ℕ) (i : ℕ) → kindAt (marks attrs) i ≡ kindAfter i (kindAt (marks attrs) (i - 1)) (markOf (getD attrs i 0))
+at-cell attrs i = kind-step (marks attrs) i ∙ ap (kindAfter i (kindAt (marks attrs) (i - 1))) (mark-at attrs i)
 
 pub onward-start : {attrs : List ℕ} {i kind : ℕ} → kind ≡ kindAt (marks attrs) i → Onward attrs i kind
 onward-start {attrs} {i} e =
     record {
-      gives = λ h.
-          ap (λ (k : ℕ). kindAfter i k (markOf (getD attrs i 0))) (e ∙ at-cell attrs i h)
+      gives =
+          ap (λ (k : ℕ). kindAfter i k (markOf (getD attrs i 0))) (e ∙ at-cell attrs i)
           ∙ again i (kindAt (marks attrs) (i - 1)) (markOf (getD attrs i 0))
-          ∙ sym (at-cell attrs i h);
+          ∙ sym (at-cell attrs i);
     }
 
 pub onward-next : {attrs : List ℕ} (i : ℕ) {j kind : ℕ} → kind ≡ kindAt (marks attrs) i → j ≡ i + 1 → Onward attrs j kind
 onward-next {attrs} i {j} e n =
     let q : i ≡ j - 1 = omega arith in
-    record { gives = λ h. ap (λ (k : ℕ). kindAfter j k (markOf (getD attrs j 0))) (e ∙ ap (kindAt (marks attrs)) q) ∙ sym (at-cell attrs j h) }
+    record { gives = ap (λ (k : ℕ). kindAfter j k (markOf (getD attrs j 0))) (e ∙ ap (kindAt (marks attrs)) q) ∙ sym (at-cell attrs j) }
 
 -- ---- tab and back tab in two searches that share no cell
 module _ (attrs : List ℕ) (cell : ℕ) where

@@ -13,7 +13,7 @@ use Rattle.cells.specs.Search.{orElse, firstIn, lastIn}
 use Rattle.cells.proofs.Search.{not-both, last-cut, first-found, last-found, nth-found}
 use Rattle.fields.specs.Fields.{isIn, unprotected, firstStart, nextStart, prevStart, nthField, target}
 use Rattle.fields.proofs.Marks.{out-low, marked-inside}
-use Rattle.fields.proofs.Fields.{start-unprotected, unprotected-inside, unprotected-field}
+use Rattle.fields.proofs.Fields.{start-unprotected, unprotected-field}
 
 -- a cell of the memory that is unprotected
 pub record Open (ms : List ℕ) (cell : ℕ) : Type 0 where
@@ -22,9 +22,6 @@ pub record Open (ms : List ℕ) (cell : ℕ) : Type 0 where
 
 pub start-open : (ms : List ℕ) (start : ℕ) → isIn 3 (getD ms start 0) ≡ true → Open ms start
 start-open ms start t = record { inside = marked-inside 3 ms start t; isOpen = start-unprotected ms start t }
-
-pub unprotected-open : (ms : List ℕ) (cell : ℕ) → unprotected ms cell ≡ true → Open ms cell
-unprotected-open ms cell t = record { inside = unprotected-inside ms cell t; isOpen = t }
 
 -- ---- what is found is a start
 -- of two searches, one where the other finds nothing: what each finds is so
@@ -38,19 +35,19 @@ neither-finds Nothing b e = (refl, e)
 
 module _ (ms : List ℕ) where
   -- what the search for the first, and for the last, finds passes
-  first-hits : (top lo : ℕ) {k : ℕ} → firstIn (isIn top) ms lo (length ms) ≡ At k → isIn top (getD ms k 0) ≡ true
-  first-hits top lo e = first-found (isIn top) 0 ms lo (length ms) (omega arith) e .hit
+  first-hits : (highest lo : ℕ) {k : ℕ} → firstIn (isIn highest) ms lo (length ms) ≡ At k → isIn highest (getD ms k 0) ≡ true
+  first-hits highest lo e = first-found (isIn highest) 0 ms lo (length ms) (omega arith) e .hit
 
-  last-hits : (top hi : ℕ) {k : ℕ} → lastIn (isIn top) ms 0 hi ≡ At k → isIn top (getD ms k 0) ≡ true
-  last-hits top hi {k} e = go (decLt (length ms) hi)
+  last-hits : (highest hi : ℕ) {k : ℕ} → lastIn (isIn highest) ms 0 hi ≡ At k → isIn highest (getD ms k 0) ≡ true
+  last-hits highest hi {k} e = go (decLt (length ms) hi)
     where
-      go : Dec (length ms < hi) → isIn top (getD ms k 0) ≡ true
-      go (yes h) = last-found (isIn top) 0 ms 0 (length ms) (omega arith) (sym (last-cut (isIn top) ms 0 hi (omega arith)) ∙ e) .hit
-      go (no h) = last-found (isIn top) 0 ms 0 hi (omega arith) e .hit
+      go : Dec (length ms < hi) → isIn highest (getD ms k 0) ≡ true
+      go (yes h) = last-found (isIn highest) 0 ms 0 (length ms) (omega arith) (sym (last-cut (isIn highest) ms 0 hi (omega arith)) ∙ e) .hit
+      go (no h) = last-found (isIn highest) 0 ms 0 hi (omega arith) e .hit
 
-  pub first-is-start : (top k : ℕ) → firstStart top ms ≡ At k → isIn top (getD ms k 0) ≡ true
+  pub first-is-start : (highest k : ℕ) → firstStart highest ms ≡ At k → isIn highest (getD ms k 0) ≡ true
   unfolding firstStart
-  first-is-start top k e = first-hits top 0 e
+  first-is-start highest k e = first-hits highest 0 e
 
   pub next-is-start : (cell k : ℕ) → nextStart ms cell ≡ At k → isIn 3 (getD ms k 0) ≡ true
   unfolding nextStart
@@ -69,8 +66,8 @@ module _ (ms : List ℕ) where
   nth-is-start n k e = nth-found (isIn 3) 0 ms n e .hit
 
   -- ---- so it lies in the memory and is unprotected
-  pub first-inside : (top k : ℕ) → firstStart top ms ≡ At k → k < length ms
-  first-inside top k e = marked-inside top ms k (first-is-start top k e)
+  pub first-inside : (highest k : ℕ) → firstStart highest ms ≡ At k → k < length ms
+  first-inside highest k e = marked-inside highest ms k (first-is-start highest k e)
 
   pub first-open : (k : ℕ) → firstStart 3 ms ≡ At k → Open ms k
   first-open k e = start-open ms k (first-is-start 3 k e)
@@ -84,25 +81,34 @@ module _ (ms : List ℕ) where
   pub nth-open : (n k : ℕ) → nthField ms n ≡ At k → Open ms k
   nth-open n k e = start-open ms k (nth-is-start n k e)
 
-  pub target-open : (cell k : ℕ) → target ms cell ≡ At k → Open ms k
+  -- so is a target, which lies in the memory where the cell does
+  pub target-is-unprotected : (cell k : ℕ) → target ms cell ≡ At k → unprotected ms k ≡ true
   unfolding target
-  target-open cell k e = go (unprotected ms cell) refl e
+  target-is-unprotected cell k e = go (unprotected ms cell) refl e
     where
-      go : (b : Bool) → unprotected ms cell ≡ b → cond b (At cell) (nextStart ms cell) ≡ At k → Open ms k
-      go true t q = let s : cell ≡ k = cc in rw (← s) (unprotected-open ms cell t)
-      go false t q = next-open cell k q
+      go : (b : Bool) → unprotected ms cell ≡ b → cond b (At cell) (nextStart ms cell) ≡ At k → unprotected ms k ≡ true
+      go true t q = let s : cell ≡ k = cc in rw (← s) t
+      go false t q = next-open cell k q .isOpen
+
+  pub target-open : (cell k : ℕ) → cell < length ms → target ms cell ≡ At k → Open ms k
+  unfolding target
+  target-open cell k h e = record { inside = go (unprotected ms cell) e; isOpen = target-is-unprotected cell k e }
+    where
+      go : (b : Bool) → cond b (At cell) (nextStart ms cell) ≡ At k → k < length ms
+      go true q = let s : cell ≡ k = cc in rw (← s) h
+      go false q = next-open cell k q .inside
 
   -- ---- where nothing is found no cell is a start, and none is unprotected
-  none-starts : (top : ℕ) → firstIn (isIn top) ms 0 (length ms) ≡ Nothing → (cell : ℕ) → isIn top (getD ms cell 0) ≡ false
-  none-starts top e cell = go (decLt cell (length ms))
+  none-starts : (highest : ℕ) → firstIn (isIn highest) ms 0 (length ms) ≡ Nothing → (cell : ℕ) → isIn highest (getD ms cell 0) ≡ false
+  none-starts highest e cell = go (decLt cell (length ms))
     where
-      go : Dec (cell < length ms) → isIn top (getD ms cell 0) ≡ false
-      go (yes h) = first-found (isIn top) 0 ms 0 (length ms) (omega arith) e cell (omega arith) h
-      go (no h) = rw (List·getD-eq-default ms 0 {n = cell} (omega arith)) (out-low top)
+      go : Dec (cell < length ms) → isIn highest (getD ms cell 0) ≡ false
+      go (yes h) = first-found (isIn highest) 0 ms 0 (length ms) (omega arith) e cell (omega arith) h
+      go (no h) = rw (List·getD-eq-default ms 0 {n = cell} (omega arith)) (out-low highest)
 
-  pub first-nothing : (top : ℕ) → firstStart top ms ≡ Nothing → (cell : ℕ) → isIn top (getD ms cell 0) ≡ false
+  pub first-nothing : (highest : ℕ) → firstStart highest ms ≡ Nothing → (cell : ℕ) → isIn highest (getD ms cell 0) ≡ false
   unfolding firstStart
-  first-nothing top e = none-starts top e
+  first-nothing highest e = none-starts highest e
 
   pub next-nothing : (cell : ℕ) → nextStart ms cell ≡ Nothing → (k : ℕ) → isIn 3 (getD ms k 0) ≡ false
   unfolding nextStart

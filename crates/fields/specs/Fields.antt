@@ -1,11 +1,10 @@
 -- Fields (document 01, 'Memory and state'), said of the marks alone, one for each cell in reading order: enhancements do not enter. Rows have 80 cells.
 -- Assumes nothing.
-use Prim.Native.Nat.{ℕ, suc, _+_, _-_, _*_, _/_, _%_, min, _≤_, _<_}
+use Prim.Native.Nat.{ℕ, _+_, _-_, _*_, _/_, _%_, min}
 use mathlib.Core.Bool.{Bool, true, cond, _&&_, _||_, not}
-use mathlib.Core.List.{List, [], _∷_, map}
-use mathlib.Core.Path.{_≡_}
+use mathlib.Core.List.{List, map}
 use lib.ListN.{length, getD}
-use lib.Dec.{leb, eqb}
+use lib.Dec.{eqb}
 use Rattle.cells.specs.Range.{within}
 use Rattle.cells.specs.declared.Found.{Found}
 use Rattle.cells.specs.declared.Found.the-variants.{At, Nothing}
@@ -18,9 +17,9 @@ markOf a = a % 16
 unfoldable pub marks : List ℕ → List ℕ
 marks attrs = map markOf attrs
 
--- a mark of 1 to top: 1 to 3 start an unprotected field, 4 a transmit-only field, 5 ends a field; 0 and 6 to 15 are no mark
+-- a mark of 1 to highest: 1 to 3 start an unprotected field, 4 a transmit-only field, 5 ends a field; 0 and 6 to 15 are no mark
 unfoldable pub isIn : ℕ → ℕ → Bool
-isIn top mark = leb 1 mark && leb mark top
+isIn highest mark = within 1 highest mark
 
 abbrev pub rowStart : ℕ → ℕ
 rowStart cell = cell / 80 * 80
@@ -32,37 +31,21 @@ rowEnd cell = cell / 80 * 80 + 80
 unfoldable pub fieldEnd : List ℕ → ℕ → ℕ
 fieldEnd ms cell = atOr (rowEnd cell) (firstIn (isIn 5) ms (cell + 1) (rowEnd cell))
 
--- the kind of cell i, whose mark is m: its own mark 1 to 5, or the kind of the cell before it in its row, 0 where there is none
-abbrev pub kindAfter : ℕ → ℕ → ℕ → ℕ
-kindAfter i before m = cond (isIn 5 m) m (cond (eqb (i % 80) 0) 0 before)
+-- the kind of a cell: the last mark 1 to 5 in its row at or before it, which is 1 to 4 in a field and 5 behind one; 0 where there is none
+abbrev pub markFound : List ℕ → Found → ℕ
+markFound ms (At k) = getD ms k 0
+markFound ms Nothing = 0
 
--- the kinds of the cells i, i + 1, .., whose marks are given; and of all cells
-unfoldable pub kindsFrom : ℕ → ℕ → List ℕ → List ℕ
-kindsFrom i before [] = []
-kindsFrom i before (m ∷ ms) =
-    let k = kindAfter i before m in
-    k ∷ kindsFrom (suc i) k ms
-
-unfoldable pub kinds : List ℕ → List ℕ
-kinds ms = kindsFrom 0 0 ms
-
--- the mark that governs a cell: 1 to 4 in a field, 5 behind one, 0 where the row has no mark before
 unfoldable pub kindAt : List ℕ → ℕ → ℕ
-kindAt ms cell = getD (kinds ms) cell 0
+kindAt ms cell = markFound ms (lastIn (isIn 5) ms (rowStart cell) (cell + 1))
 
 -- fields of marks 1 to 3 are unprotected; all other cells are protected
 unfoldable pub unprotected : List ℕ → ℕ → Bool
 unprotected ms cell = isIn 3 (kindAt ms cell)
 
--- the cell belongs to the field that starts at start
-pub record InField (ms : List ℕ) (start cell : ℕ) : Type 0 where
-  pub starts : isIn 4 (getD ms start 0) ≡ true
-  pub from : start ≤ cell
-  pub upto : cell < fieldEnd ms start
-
--- home: the first field whose mark is 1 to top
+-- home: the first field whose mark is 1 to highest
 unfoldable pub firstStart : ℕ → List ℕ → Found
-firstStart top ms = firstIn (isIn top) ms 0 (length ms)
+firstStart highest ms = firstIn (isIn highest) ms 0 (length ms)
 
 -- tab: the first unprotected field start after the cell in reading order, else the first of all
 unfoldable pub nextStart : List ℕ → ℕ → Found

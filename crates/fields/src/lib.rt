@@ -4,27 +4,28 @@ ghost use Prim.Native.Nat.{_+_, _*_, _/_, _≤_, _<_};
 ghost use lib.ListN.{length};
 ghost use Rattle.cells.specs.Search.{firstIn, lastIn};
 ghost use Rattle.cells.specs.Memory.{filledWhere};
-ghost use Rattle.fields.specs.Fields.{markOf, marks, isIn, kindAfter, kindAt, unprotected, fieldEnd, firstStart, nextStart, prevStart, nthField, target, letter, digit, allowed, nonBlank, rowUnderText};
+ghost use Rattle.fields.specs.Walk.{kindAfter};
+ghost use Rattle.fields.specs.Fields.{markOf, marks, isIn, kindAt, unprotected, fieldEnd, firstStart, nextStart, prevStart, nthField, target, letter, digit, allowed, nonBlank, rowUnderText};
 use cells::Found;
 
-// Whether a mark is 1 to `top`.
-pub fn is_in(top: u8, mark: u8) -> bool
-    ensures { λ r. ⌜ r ≡ isIn top mark ⌝ }
+// Whether a mark is 1 to `highest`.
+pub fn is_in(highest: u8, mark: u8) -> bool
+    ensures { λ r. ⌜ r ≡ isIn highest mark ⌝ }
 {
-    1 <= mark && mark <= top
+    1 <= mark && mark <= highest
 }
 
-// Whether an attribute byte's mark is 1 to `top`.
-pub fn has_mark(a: u8, top: u8) -> bool
-    ensures { λ r. ⌜ r ≡ isIn top (markOf a) ⌝ }
+// Whether an attribute byte's mark is 1 to `highest`.
+pub fn has_mark(a: u8, highest: u8) -> bool
+    ensures { λ r. ⌜ r ≡ isIn highest (markOf a) ⌝ }
 {
-    is_in(top, a % 16)
+    is_in(highest, a % 16)
 }
 
-// The first cell from `from` on, before `to`, whose mark is 1 to `top`.
-pub fn first_between(attrs: &[u8], from: usize, to: usize, top: u8) -> Found
+// The first cell from `from` on, before `to`, whose mark is 1 to `highest`.
+pub fn first_between(attrs: &[u8], from: usize, to: usize, highest: u8) -> Found
     requires { ⌜ to ≤ length (now attrs) ⌝ }
-    ensures { λ r. ⌜ r ≡ firstIn (isIn top) (marks (now (attrs .entry))) from to ⌝ }
+    ensures { λ r. ⌜ r ≡ firstIn (isIn highest) (marks (now (attrs .entry))) from to ⌝ }
 {
     let mut row = from / 80;
     let mut col = from % 80;
@@ -34,7 +35,7 @@ pub fn first_between(attrs: &[u8], from: usize, to: usize, top: u8) -> Found
             if to <= cell {
                 break 'rows Found::Nothing;
             }
-            if has_mark(attrs[cell], top) {
+            if has_mark(attrs[cell], highest) {
                 break 'rows Found::At(cell);
             }
             col += 1;
@@ -44,10 +45,10 @@ pub fn first_between(attrs: &[u8], from: usize, to: usize, top: u8) -> Found
     }
 }
 
-// The last cell from `from` on, before `to`, whose mark is 1 to `top`.
-pub fn last_between(attrs: &[u8], from: usize, to: usize, top: u8) -> Found
+// The last cell from `from` on, before `to`, whose mark is 1 to `highest`.
+pub fn last_between(attrs: &[u8], from: usize, to: usize, highest: u8) -> Found
     requires { ⌜ to ≤ length (now attrs) ⌝ }
-    ensures { λ r. ⌜ r ≡ lastIn (isIn top) (marks (now (attrs .entry))) from to ⌝ }
+    ensures { λ r. ⌜ r ≡ lastIn (isIn highest) (marks (now (attrs .entry))) from to ⌝ }
 {
     let mut row = to / 80;
     let mut col = to % 80;
@@ -58,7 +59,7 @@ pub fn last_between(attrs: &[u8], from: usize, to: usize, top: u8) -> Found
             if cell < from {
                 break 'rows Found::Nothing;
             }
-            if has_mark(attrs[cell], top) {
+            if has_mark(attrs[cell], highest) {
                 break 'rows Found::At(cell);
             }
         }
@@ -94,11 +95,11 @@ pub fn prev_start(attrs: &[u8], cell: usize) -> Found
     }
 }
 
-// Home: the first field whose mark is 1 to `top`.
-pub fn first_start(attrs: &[u8], top: u8) -> Found
-    ensures { λ r. ⌜ r ≡ firstStart top (marks (now (attrs .entry))) ⌝ }
+// Home: the first field whose mark is 1 to `highest`.
+pub fn first_start(attrs: &[u8], highest: u8) -> Found
+    ensures { λ r. ⌜ r ≡ firstStart highest (marks (now (attrs .entry))) ⌝ }
 {
-    first_between(attrs, 0, attrs.len(), top)
+    first_between(attrs, 0, attrs.len(), highest)
 }
 
 // The kind of cell `i` from its mark and the kind of the cell before it.

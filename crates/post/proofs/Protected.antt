@@ -9,10 +9,9 @@ use Rattle.cells.proofs.Patch.{eq-or}
 use Rattle.cells.proofs.Splice.{length-posted}
 use Rattle.cells.proofs.Frame.{posted-out}
 use Rattle.fields.specs.Fields.{marks, fieldEnd, holds}
-use Rattle.fields.proofs.Fields.{field-ends, end-inside}
+use Rattle.fields.proofs.Fields.{field-ends}
 use Rattle.fields.proofs.Starts.{nth-open}
 use Rattle.fields.proofs.Numbers.{holds-unprotected, field-holds}
-use Rattle.screen.proofs.Kept.{marks-long}
 use Rattle.screen.proofs.Frame.{Only, Rest, only-none, only-more, protected-kept, rest-out, end-fits}
 use Rattle.terminal.specs.State.{World, world, pageOf}
 use Rattle.terminal.specs.Protected.{Protects}
@@ -34,7 +33,7 @@ module _ {rows : ℕ} {w : World} {n : ℕ} {text : List ℕ} (r : PostReady row
       let o = nth-open ms n k (r .found) in
       let order : k ≤ fieldEnd ms k = omega (arith, field-ends ms k .past) in
       let fits = end-fits p k (o .isOpen) in
-      only-more {P = Rest ms k} (λ j i. field-holds ms n k j (r .found) (i .from) (i .upto) (omega (arith, i .upto, end-inside ms rows k (marks-long p) (o .inside))))
+      only-more {P = Rest ms k} (λ j i. field-holds ms n k j (r .found) (i .from) (i .upto))
       (record {
         attrs-stay = refl;
         chars-stay = record {

@@ -39,7 +39,7 @@ module _ {rows : ℕ} {w : World} (s : Sound rows w) where
       (either P (eqb (t .pending) 1) (omega (arith, cursor-length (c .col) (c .row) 82))
       (either P (eqb (t .pending) 2) (omega (arith, cursor-length (c .col) (c .row - c .top) 89))
       (either P (eqb (t .pending) 3) (omega (arith, status-length (t .format) (t .insert) (t .lock)))
-      (either P (eqb (t .pending) 4) (omega (arith, block-longest (w .chars) (c .row) (omega (arith, s .chars-long)) (t .format) (w .attrs), s .chars-long)) (omega arith)))))
+      (either P (eqb (t .pending) 4) (omega (arith, block-longest (w .chars) (c .row) (omega (arith, s .chars-long)) (t .format) (w .attrs) (s .chars-long ∙ sym (s .attrs-long)), s .chars-long)) (omega arith)))))
       (omega arith))
 
   fed-streamed : (bytes reply : List ℕ) → fed rows w bytes reply ≡ streamed rows bytes 0 0 w reply

@@ -1,12 +1,12 @@
 -- The replies (document 01, 'Replies'), byte by byte. Assumes nothing.
 use Prim.Native.Nat.{ℕ, suc, _+_, _*_, _/_, _%_}
-use mathlib.Core.Bool.{Bool, true, false, cond, _||_}
-use mathlib.Core.List.{List, [], _∷_, _++_}
+use mathlib.Core.Bool.{Bool, true, false, cond}
+use mathlib.Core.List.{List, [], _∷_, _++_, map}
 use lib.Seq.{slice}
 use Rattle.cells.specs.declared.Found.{Found}
 use Rattle.cells.specs.declared.Found.the-variants.{At, Nothing}
-use Rattle.cells.specs.Search.{lastIn}
-use Rattle.fields.specs.Fields.{isIn, kindAfter, nonBlank, marks}
+use Rattle.cells.specs.Search.{lastIn, allOf}
+use Rattle.fields.specs.Fields.{marks, isIn, fieldEnd, nonBlank}
 
 -- three digits
 unfoldable pub digits : ℕ → List ℕ
@@ -24,20 +24,18 @@ unfoldable pub statusReply : Bool → Bool → Bool → List ℕ
 statusReply format insert lock = 27 ∷ 92 ∷ (48 + bit format + 2 * bit insert + 4 * bit lock) ∷ 48 ∷ 48 ∷ 48 ∷ 48 ∷ 48 ∷ 48 ∷ 13 ∷ []
 
 -- ---- block, format on: every field of marks 1 to 4 in reading order, whole, byte 31 between, byte 30 last.
--- From cell i on: `before` is the kind of the cell before it, `some` says whether a field came already
-abbrev pub apart : Bool → List ℕ → List ℕ
-apart some bytes = cond some (31 ∷ bytes) bytes
+-- The text of a field: its characters from its start up to its end
+unfoldable pub fieldText : List ℕ → List ℕ → ℕ → List ℕ
+fieldText chars ms start = slice start (fieldEnd ms start) chars
 
-unfoldable pub fieldsFrom : ℕ → ℕ → Bool → List ℕ → List ℕ → List ℕ
-fieldsFrom i before some [] chars = []
-fieldsFrom i before some (m ∷ ms) [] = []
-fieldsFrom i before some (m ∷ ms) (v ∷ vs) =
-    let k = kindAfter i before m in
-    let rest = fieldsFrom (suc i) k (some || isIn 4 m) ms vs in
-    cond (isIn 4 m) (apart some (v ∷ rest)) (cond (isIn 4 k) (v ∷ rest) rest)
+-- texts with byte 31 between
+unfoldable pub joined : List (List ℕ) → List ℕ
+joined [] = []
+joined (t ∷ []) = t
+joined (t ∷ (u ∷ ts)) = t ++ (31 ∷ joined (u ∷ ts))
 
 unfoldable pub fieldsReply : List ℕ → List ℕ → List ℕ
-fieldsReply chars attrs = fieldsFrom 0 0 false (marks attrs) chars ++ (30 ∷ [])
+fieldsReply chars attrs = joined (map (fieldText chars (marks attrs)) (allOf (isIn 4) 0 (marks attrs))) ++ (30 ∷ [])
 
 -- ---- block, format off: the cursor row through its last non-blank, CR
 abbrev pub through : ℕ → Found → ℕ

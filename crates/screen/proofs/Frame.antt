@@ -18,8 +18,9 @@ use Rattle.cells.proofs.Values.{length-filled, length-shiftedLeft}
 use Rattle.cells.proofs.Frame.{Agree, filled-out, shiftedRight-out, shiftedLeft-out}
 use Rattle.fields.specs.Fields.{markOf, isIn, kindAt, unprotected, fieldEnd, target, allowed}
 use Rattle.fields.proofs.Fields.{field-ends, end-inside, unprotected-in, unprotected-inside}
-use Rattle.fields.proofs.Starts.{target-open}
-use Rattle.screen.specs.Page.{Page, Whole, cell, marksOf}
+use Rattle.fields.proofs.Starts.{target-is-unprotected}
+use Rattle.screen.specs.Page.{Page, cell, marksOf}
+use Rattle.screen.specs.Whole.{Whole}
 use Rattle.screen.specs.Edits.{lineFed, put, typedAt, typedIn, typed, displayCleared, lineCleared, charDeleted, rowInserted, rowDeleted, markSet, markTurned, enhanced}
 use Rattle.screen.proofs.Kept.{choose-by, length-put, marks-long}
 
@@ -85,16 +86,16 @@ put-out false xs k e v j l fits out = getD-set-other xs k j v 0 (⊎-elim (λ u.
 module _ {rows : ℕ} {p : Page} (w : Whole rows p) where
   -- an unprotected cell's field ends in the memory, and all the rest of it is unprotected
   pub end-fits : (k : ℕ) → unprotected (marksOf p) k ≡ true → fieldEnd (marksOf p) k ≤ length (p .chars)
-  end-fits k t = omega (arith, w .chars-long, marks-long w, end-inside (marksOf p) rows k (marks-long w) (unprotected-inside (marksOf p) k t))
+  end-fits k t = omega (arith, w .chars-long, marks-long w, end-inside (marksOf p) rows k (marks-long w) (unprotected-inside (marksOf p) rows k (marks-long w) t))
 
   pub rest-unprotected : (k j : ℕ) → unprotected (marksOf p) k ≡ true → Rest (marksOf p) k j → unprotected (marksOf p) j ≡ true
-  rest-unprotected k j t r = unprotected-in (marksOf p) k j (r .from) (r .upto) (omega (arith, r .upto, end-fits k t, w .chars-long, marks-long w)) ∙ t
+  rest-unprotected k j t r = unprotected-in (marksOf p) k j (r .from) (r .upto) ∙ t
 
   pub cursor-unprotected : (j : ℕ) → CursorRest p j → unprotected (marksOf p) j ≡ true
   cursor-unprotected j r = rest-unprotected (cell p) j (r .isOpen) (r .rest)
 
   pub target-unprotected : (j : ℕ) → TargetRest p j → unprotected (marksOf p) j ≡ true
-  target-unprotected j r = rest-unprotected (r .start) j (target-open (marksOf p) (cell p) (r .start) (r .found) .isOpen) (r .rest)
+  target-unprotected j r = rest-unprotected (r .start) j (target-is-unprotected (marksOf p) (cell p) (r .start) (r .found)) (r .rest)
 
   -- ---- text
   typed-at-only : (insert : Bool) (v k : ℕ) → unprotected (marksOf p) k ≡ true → Only (Rest (marksOf p) k) p (typedAt insert v k p)
@@ -112,7 +113,7 @@ module _ {rows : ℕ} {p : Page} (w : Whole rows p) where
   unfolding typedIn
   typed-in-only insert v (At k) e =
       choose-by (Only (TargetRest p) p) (allowed (kindAt (marksOf p) k) v)
-      (λ _. only-more (λ j r. record { start = k; found = e; rest = r }) (typed-at-only insert v k (target-open (marksOf p) (cell p) k e .isOpen)))
+      (λ _. only-more (λ j r. record { start = k; found = e; rest = r }) (typed-at-only insert v k (target-is-unprotected (marksOf p) (cell p) k e)))
       (λ _. only-none refl refl)
   typed-in-only insert v Nothing e = only-none refl refl
 

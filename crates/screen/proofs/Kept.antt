@@ -20,7 +20,8 @@ use Rattle.fields.specs.Fields.{markOf, isIn, kindAt, unprotected, fieldEnd, fi
 use Rattle.fields.proofs.Marks.{length-marks}
 use Rattle.fields.proofs.Fields.{end-inside}
 use Rattle.fields.proofs.Starts.{first-inside, next-open, prev-open, target-open}
-use Rattle.screen.specs.Page.{Page, page, Whole, cell, marksOf}
+use Rattle.screen.specs.Page.{Page, page, cell, marksOf}
+use Rattle.screen.specs.Whole.{Whole}
 use Rattle.screen.specs.Edits.{scrolled, lineFed, homed, homedDown, goneFound, tabbedIn, backTabbedIn, put, onward, typedFree, cellAfter, typedAt, typedIn, typed, displayCleared, lineCleared, charDeleted, rowInserted, rowDeleted, markSet, markTurned, enhanced}
 
 -- what a choice has by a test: the first arm where the test holds, the second where it fails
@@ -60,12 +61,12 @@ found-in g (At k) h = cell-in g (h k refl)
 found-in g Nothing h = g
 
 module _ {rows : ℕ} {c : Cursor} (g : InPlace rows c) (ms : List ℕ) (long : length ms ≡ rows * 80) where
-  pub homed-in : (format : Bool) (top : ℕ) → InPlace rows (homed format top ms)
+  pub homed-in : (format : Bool) (highest : ℕ) → InPlace rows (homed format highest ms)
   unfolding homed
-  homed-in format top =
+  homed-in format highest =
       home-in (omega (arith, g))
       (choose-by (λ (k : ℕ). k < rows * 80) format
-      (λ _. found-or (rows * 80) 0 (firstStart top ms) (λ k e. omega (arith, first-inside ms top k e)) (omega (arith, g)))
+      (λ _. found-or (rows * 80) 0 (firstStart highest ms) (λ k e. omega (arith, first-inside ms highest k e)) (omega (arith, g)))
       (λ _. omega (arith, g)))
 
   pub tabbedIn-in : InPlace rows (tabbedIn ms c)
@@ -174,5 +175,5 @@ typed-free-whole {p = p} w insert v = onward-whole (whole-with w (w .place) (len
 pub typed-whole : {rows : ℕ} {p : Page} → Whole rows p → (format insert : Bool) (v : ℕ) → Whole rows (typed rows format insert v p)
 unfolding typed
 typed-whole {p = p} w true insert v =
-    typed-in-whole w insert v (target (marksOf p) (cell p)) (λ k e. omega (arith, marks-long w, target-open (marksOf p) (cell p) k e .inside))
+    typed-in-whole w insert v (target (marksOf p) (cell p)) (λ k e. omega (arith, marks-long w, target-open (marksOf p) (cell p) k (omega (arith, marks-long w, w .place)) e .inside))
 typed-whole w false insert v = typed-free-whole w insert v

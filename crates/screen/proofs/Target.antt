@@ -9,5 +9,5 @@ use Rattle.fields.specs.Fields.{marks, target}
 use Rattle.fields.proofs.Marks.{length-marks}
 use Rattle.fields.proofs.Starts.{target-open}
 
-pub target-inside : (attrs : List ℕ) (cell k : ℕ) → target (marks attrs) cell ≡ At k → k < length attrs
-target-inside attrs cell k e = omega (arith, length-marks attrs, target-open (marks attrs) cell k e .inside)
+pub target-inside : (attrs : List ℕ) (cell k : ℕ) → cell < length attrs → target (marks attrs) cell ≡ At k → k < length attrs
+target-inside attrs cell k h e = omega (arith, length-marks attrs, target-open (marks attrs) cell k (omega (arith, length-marks attrs)) e .inside)

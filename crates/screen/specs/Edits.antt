@@ -22,9 +22,9 @@ scrolled p = page (p .cursor) (movedUp (p .chars) 0 32) (movedUp (p .attrs) 0 0)
 unfoldable pub lineFed : ℕ → Bool → Page → Page
 lineFed rows format p = cond (ltb (p .cursor .row + 1) rows) (withCursor (goneDown rows (p .cursor)) p) (cond format p (scrolled p))
 
--- ---- home: top 0, the cursor at the first field whose mark is 1 to top, or at (0,0) with format off or none
+-- ---- home: top 0, the cursor at the first field whose mark is 1 to highest, or at (0,0) with format off or none
 unfoldable pub homed : Bool → ℕ → List ℕ → Cursor
-homed format top ms = homeAt (cond format (atOr 0 (firstStart top ms)) 0)
+homed format highest ms = homeAt (cond format (atOr 0 (firstStart highest ms)) 0)
 
 -- ---- home down: column 0 of the row under the last row that has a non-blank
 unfoldable pub homedDown : ℕ → List ℕ → Cursor → Cursor

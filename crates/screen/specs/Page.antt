@@ -1,10 +1,8 @@
 -- A page: the cursor and the two memories. Assumes nothing.
-use Prim.Native.Nat.{ℕ, _*_, _≤_}
-use mathlib.Core.Path.{_≡_}
+use Prim.Native.Nat.{ℕ}
 use mathlib.Core.List.{List}
-use lib.ListN.{length}
 use Rattle.cursor.specs.declared.Cursor.{Cursor}
-use Rattle.cursor.specs.Cursor.{InPlace, cellOf}
+use Rattle.cursor.specs.Cursor.{cellOf}
 use Rattle.fields.specs.Fields.{marks}
 
 pub record Page : Type 0 where
@@ -24,10 +22,3 @@ cell p = cellOf (p .cursor)
 
 abbrev pub marksOf : Page → List ℕ
 marksOf p = marks (p .attrs)
-
--- a whole page: memories of `rows` rows of 80 cells, the cursor in its place
-pub record Whole (rows : ℕ) (p : Page) : Type 0 where
-  pub few : rows ≤ 96
-  pub chars-long : length (p .chars) ≡ rows * 80
-  pub attrs-long : length (p .attrs) ≡ rows * 80
-  pub place : InPlace rows (p .cursor)

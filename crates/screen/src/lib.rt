@@ -4,7 +4,8 @@ ghost use Prim.Native.Nat.{_+_, _*_, _≤_, _<_};
 ghost use lib.ListN.{length};
 ghost use Rattle.cursor.specs.Cursor.{cellOf};
 ghost use Rattle.fields.specs.Fields.{marks, target};
-ghost use Rattle.screen.specs.Page.{page, Whole};
+ghost use Rattle.screen.specs.Page.{page};
+ghost use Rattle.screen.specs.Whole.{Whole};
 ghost use Rattle.screen.specs.Edits.{scrolled, lineFed, homed, homedDown, tabbedIn, backTabbedIn, put, onward, typedFree, cellAfter, typedAt, typedIn, typed, displayCleared, lineCleared, charDeleted, rowInserted, rowDeleted, markSet, markTurned, enhanced};
 use cells::Found;
 use cursor::Cursor;
@@ -38,12 +39,12 @@ pub fn feed_line(
     scroll(chars, attrs, rows, cursor)
 }
 
-// Home, to the first field whose mark is 1 to `top`.
-pub fn go_home(attrs: &[u8], format: bool, top: u8) -> Cursor
-    ensures { λ r. ⌜ r ≡ homed format top (marks (now (attrs .entry))) ⌝ }
+// Home, to the first field whose mark is 1 to `highest`.
+pub fn go_home(attrs: &[u8], format: bool, highest: u8) -> Cursor
+    ensures { λ r. ⌜ r ≡ homed format highest (marks (now (attrs .entry))) ⌝ }
 {
     if format {
-        let first = fields::first_start(attrs, top);
+        let first = fields::first_start(attrs, highest);
         return match first {
             Found::At(k) => Cursor::home_to(k),
             Found::Nothing => Cursor::home_to(0),
@@ -233,6 +234,7 @@ pub fn clear_line(
     ensures { λ r. ⌜ page r (now (chars .exit)) (now (attrs .exit)) ≡ lineCleared format (page cursor (now (chars .entry)) (now (attrs .entry))) ⌝ }
 {
     let k = cursor.cell();
+    let row_end = k / 80 * 80 + 80;
     if format {
         if fields::is_unprotected(attrs, k) {
             let end = fields::field_end(attrs, k);
@@ -240,9 +242,8 @@ pub fn clear_line(
         }
         return cursor;
     }
-    let end = k / 80 * 80 + 80;
-    cells::fill(chars, k, end, 32);
-    cells::fill(attrs, k, end, 0);
+    cells::fill(chars, k, row_end, 32);
+    cells::fill(attrs, k, row_end, 0);
     cursor
 }
 

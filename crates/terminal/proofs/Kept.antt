@@ -15,7 +15,8 @@ use Rattle.fields.specs.Fields.{marks}
 use Rattle.fields.proofs.Marks.{length-marks}
 use Rattle.reading.specs.Action as Action
 use Rattle.reading.proofs.Rules.{either}
-use Rattle.screen.specs.Page.{Page, Whole}
+use Rattle.screen.specs.Page.{Page}
+use Rattle.screen.specs.Whole.{Whole}
 use Rattle.screen.proofs.Kept.{typed-whole, lineFed-whole, displayCleared-whole, lineCleared-whole, charDeleted-whole, rowInserted-whole, rowDeleted-whole, length-markSet, length-markTurned, length-enhanced, homed-in, homedDown-in, tabbedIn-in, backTabbedIn-in}
 use Rattle.terminal.specs.declared.Terminal.{Terminal}
 use Rattle.terminal.specs.State.{World, stated, placed, moded, stopped, pageOf, paged, Good, Sound}

@@ -210,11 +210,11 @@ impl Terminal {
         self
     }
 
-    // Home, to the first field whose mark is 1 to `top`.
-    pub fn move_home(mut self, attrs: &[u8], top: u8) -> Terminal
-        ensures { λ r. ⌜ r ≡ placed self (homed (self .format) top (marks (now (attrs .entry)))) ⌝ }
+    // Home, to the first field whose mark is 1 to `highest`.
+    pub fn move_home(mut self, attrs: &[u8], highest: u8) -> Terminal
+        ensures { λ r. ⌜ r ≡ placed self (homed (self .format) highest (marks (now (attrs .entry)))) ⌝ }
     {
-        self.cursor = screen::go_home(attrs, self.format, top);
+        self.cursor = screen::go_home(attrs, self.format, highest);
         self
     }
 

@@ -34,7 +34,7 @@ fill-unprotected-spec =
     (λ c. omega arith)
     (λ c.
     let l = c .before .before .before .before .before .loop in
-    let k = c .before .before .kind-after .ensures ∙ l .inv .2 .gives (omega arith) in
+    let k = c .before .before .kind-after .ensures ∙ l .inv .2 .gives in
     let e = unprotected-by _ (l .i) k (c .before .is-in .ensures) in
     ⊎-elim
     (λ w. (omega arith, omega arith, onward-next (l .i) k refl, rw (w .1) (up (l .inv .3) (omega arith) (omega arith) (sym (simp (e ∙ w .0 .taken))) refl)))

@@ -9,17 +9,17 @@ use Rattle.fields.proofs.first_between.Statement.{statement}
 use Rattle.fields.proofs.first_between.Tie as tie
 
 abbrev Inv-loop : tie.InvT-loop
-Inv-loop attrs from to top row col₀ col =
-    (col ≤ 80) × (row * 80 + col ≤ max from to) × (row * 80 + col ≤ max to (row * 80 + 79)) × Upto (hasMark top) 0 attrs from to (row * 80 + col)
+Inv-loop attrs from to highest row col₀ col =
+    (col ≤ 80) × (row * 80 + col ≤ max from to) × (row * 80 + col ≤ max to (row * 80 + 79)) × Upto (hasMark highest) 0 attrs from to (row * 80 + col)
 
 abbrev μ-loop : tie.MeasureT-loop
-μ-loop attrs from to top row col₀ col = 80 - col
+μ-loop attrs from to highest row col₀ col = 80 - col
 
 abbrev Inv-rows : tie.InvT-rows
-Inv-rows attrs from to top row₀ col₀ row col = (col < 80) × (row * 80 + col ≤ max from to) × Upto (hasMark top) 0 attrs from to (row * 80 + col)
+Inv-rows attrs from to highest row₀ col₀ row col = (col < 80) × (row * 80 + col ≤ max from to) × Upto (hasMark highest) 0 attrs from to (row * 80 + col)
 
 abbrev μ-rows : tie.MeasureT-rows
-μ-rows attrs from to top row₀ col₀ row col = to - row * 80
+μ-rows attrs from to highest row₀ col₀ row col = to - row * 80
 
 pub first-between-spec : {M : Type 1} → statement M
 first-between-spec =

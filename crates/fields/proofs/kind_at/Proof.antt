@@ -1,14 +1,14 @@
--- `fields::kind_at` meets its contract: no cell from `i` up to the cell is marked, so the cell before `i` governs it. Assumes nothing.
+-- `fields::kind_at` meets its contract: from the cell at hand up to the cell none is marked. Assumes nothing.
 use Prim.Native.Nat.{_+_, _≤_}
-use mathlib.Core.Path.{sym}
 use borrow.Author.Needs.{needs}
 use native.Mathlib.Omega.{arith}
-use Rattle.fields.proofs.Scans.{Governed, governed-start, governed-next, governed-hit}
+use Rattle.cells.proofs.Search.{Downto, down-start, down-next}
+use Rattle.fields.proofs.Scans.{hasMark, kind-hit, kind-none}
 use Rattle.fields.proofs.kind_at.Statement.{statement}
 use Rattle.fields.proofs.kind_at.Tie as tie
 
 abbrev Inv-loop : tie.InvT-loop
-Inv-loop attrs cell start i₀ i = (start ≤ i) × (i ≤ cell + 1) × Governed attrs cell i
+Inv-loop attrs cell start i₀ i = (start ≤ i) × (i ≤ cell + 1) × Downto (hasMark 5) 0 attrs start (cell + 1) i
 
 abbrev μ-loop : tie.MeasureT-loop
 μ-loop attrs cell start i₀ i = i
@@ -19,11 +19,11 @@ kind-at-spec =
     (tie.spec Inv-loop μ-loop
     (λ c. omega arith)
     (λ c. omega arith)
-    (λ c. (omega arith, omega arith, governed-start (omega arith) (omega arith)))
+    (λ c. (omega arith, omega arith, down-start (omega arith) (omega arith)))
     (λ c. omega arith)
     (λ c. omega arith)
     (λ c κs. search needs)
-    (λ c. governed-hit (c .before .before .before .before .loop .inv .2) (omega arith) (cc))
+    (λ c. kind-hit _ (c .before .before .before .before .loop .inv .2) (omega arith) (cc))
     (λ c. omega arith)
-    (λ c. (omega arith, omega arith, governed-next (c .before .before .before .before .loop .inv .2) (omega arith) (cc)))
-    (λ c. sym (c .before .loop .inv .2 .over (omega arith))))
+    (λ c. (omega arith, omega arith, down-next (c .before .before .before .before .loop .inv .2) (omega arith) (cc) (omega arith)))
+    (λ c. kind-none _ (c .before .loop .inv .2) (omega arith)))

@@ -9,16 +9,16 @@ use Rattle.fields.proofs.last_between.Statement.{statement}
 use Rattle.fields.proofs.last_between.Tie as tie
 
 abbrev Inv-loop : tie.InvT-loop
-Inv-loop attrs from to top row col₀ col = (row * 80 + col ≤ to) × Downto (hasMark top) 0 attrs from to (row * 80 + col)
+Inv-loop attrs from to highest row col₀ col = (row * 80 + col ≤ to) × Downto (hasMark highest) 0 attrs from to (row * 80 + col)
 
 abbrev μ-loop : tie.MeasureT-loop
-μ-loop attrs from to top row col₀ col = col
+μ-loop attrs from to highest row col₀ col = col
 
 abbrev Inv-rows : tie.InvT-rows
-Inv-rows attrs from to top row₀ col₀ row col = Inv-loop attrs from to top row col₀ col
+Inv-rows attrs from to highest row₀ col₀ row col = Inv-loop attrs from to highest row col₀ col
 
 abbrev μ-rows : tie.MeasureT-rows
-μ-rows attrs from to top row₀ col₀ row col = row
+μ-rows attrs from to highest row₀ col₀ row col = row
 
 pub last-between-spec : {M : Type 1} → statement M
 last-between-spec =

@@ -47,4 +47,4 @@ measure-fields-spec =
     (λ c.
     let l = c .before .loop in
     let a = c .before .before .before .before .args in
-    omega (arith, l .inv .2, ap length (left-none (a .chars .now) (a .attrs .now) (l .i) (l .kind) (l .some) (omega arith)))))
+    omega (arith, l .inv .2, ap length (left-none (a .chars .now) (a .attrs .now) (l .i) (l .kind) (l .some) (omega arith) (omega arith)))))

@@ -13,6 +13,8 @@ clear-line-spec =
     tie.close
     (tie.spec
     (λ c κs. search needs)
+    (λ c. search needs)
+    (λ c. search needs)
     (λ c κs. search needs)
     (λ c κs. search needs)
     (λ c κs. let e = field-ends (marks (c .before .before .before .before .before .before .before .before .before .before .args .attrs .now)) (c .before .before .before .before .before .before .before .cell .result) in omega (arith, c .before .field-end .ensures, e .past, e .within))
@@ -21,8 +23,6 @@ clear-line-spec =
     (λ c. rw (c .before .before .before .before .before .before .before .before .before .if1 .taken, ← c .before .before .before .before .before .before .before .before .before .before .cell .ensures, ← c .before .before .before .before .before .before .before .is-unprotected .ensures, c .before .before .before .before .before .before .if2 .taken) (cc))
     (λ c. search needs)
     (λ c. rw (c .before .before .before .if1 .taken, ← c .before .before .before .before .cell .ensures, ← c .before .is-unprotected .ensures, c .if2 .left))
-    (λ c. search needs)
-    (λ c. search needs)
     (λ c κs. search needs)
     (λ c κs. search needs)
     (λ c. search needs)
