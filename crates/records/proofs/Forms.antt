@@ -10,7 +10,7 @@ use lib.Seq.{slice, drop-cons, drop-length, take-nil}
 use lib.Dec.{leb, ltb, eqb}
 use borrow.Author.Tests.{eqb-true, leb-true, eq-eqb, ne-eqb, lt-ltb, le-ltb, le-leb, lt-leb}
 use Rattle.screen.proofs.Kept.{choose-by}
-use Rattle.records.specs.Sessions.{kindOf, lengthOf, numberOf, dataOf, zeros, kindFits, formRefusal}
+use Rattle.records.specs.Records.{kindOf, lengthOf, numberOf, dataOf, zeros, kindFits, formRefusal}
 
 -- ---- zeros, at byte i
 module _ (bytes : List ℕ) (i : ℕ) (h : i < length bytes) where

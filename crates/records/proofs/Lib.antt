@@ -1,5 +1,4 @@
 -- The laws of session records.
 pub mod Forms
-pub mod Drained
 pub mod Running
-pub mod Answered
+pub mod Whole

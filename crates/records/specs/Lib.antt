@@ -1,2 +1,2 @@
 -- The definitions of session records.
-pub mod Sessions
+pub mod Records

@@ -1,10 +1,18 @@
 // Session records: a record of 84 bytes is read and run on a terminal.
 ghost use mathlib.Core.Path.{_≡_};
-ghost use Prim.Native.Nat.{_+_, _*_, _≤_, _<_};
+ghost use Prim.Native.Nat.{_+_, _*_, _≤_, _<_, min};
 ghost use lib.ListN.{length, drop};
 ghost use Rattle.terminal.specs.State.{world};
-ghost use Rattle.records.specs.Sessions.{numberOf, zeros, kindFits, formRefusal, ranLeft, hostRan, keyRan, postRan, recordRan};
+ghost use Rattle.records.specs.Records.{numberOf, zeros, kindFits, formRefusal, partLeft, hostPart, keyPart, postPart, recordPart, ranLeft, recordRan};
 use terminal::Terminal;
+
+// The number, the data byte to go on from, the bytes written to the reply, and the state afterwards.
+pub struct PartAnswer {
+    pub number: u8,
+    pub at: usize,
+    pub written: usize,
+    pub state: Terminal,
+}
 
 // The answer, the reply bytes added up, and the state afterwards.
 pub struct RanAnswer {
@@ -69,21 +77,122 @@ pub fn refuse_form(bytes: &[u8]) -> u8
     if is_zero(bytes, 4 + size) { 0 } else { 11 }
 }
 
-// Host bytes, with an emptied reply buffer for each call until all is taken.
-fn run_host(t: Terminal, chars: &mut [u8], attrs: &mut [u8], bytes: &[u8]) -> RanAnswer
-    requires { ⌜ length (now bytes) ≤ 80 ⌝ }
-    ensures { λ r. ⌜ ranLeft r (now (chars .exit)) (now (attrs .exit)) ≡ hostRan 48 (world t (now (chars .entry)) (now (attrs .entry))) (now (bytes .entry)) ⌝ }
+fn least(a: usize, b: usize) -> usize
+    ensures { λ r. ⌜ r ≡ min a b ⌝ }
+{
+    if a < b { a } else { b }
+}
+
+// Host bytes from byte `at` on, as far as the reply buffer goes.
+fn run_host(
+    t: Terminal,
+    chars: &mut [u8],
+    attrs: &mut [u8],
+    bytes: &[u8],
+    at: usize,
+    reply: &mut [u8],
+) -> PartAnswer
+    ensures { λ r. ⌜ partLeft r (now (chars .exit)) (now (attrs .exit)) (now (reply .exit)) ≡ hostPart 48 (world t (now (chars .entry)) (now (attrs .entry))) (now (bytes .entry)) at (now (reply .entry)) ⌝ }
+{
+    let from = least(at, bytes.len());
+    let a = host::host(t, chars, attrs, &bytes[from..], reply);
+    let state = a.state;
+    PartAnswer {
+        number: a.number,
+        at: at + a.taken,
+        written: a.written,
+        state: state,
+    }
+}
+
+fn run_key(
+    t: Terminal,
+    chars: &mut [u8],
+    attrs: &mut [u8],
+    code: u16,
+    at: usize,
+    reply: &mut [u8],
+) -> PartAnswer
+    ensures { λ r. ⌜ partLeft r (now (chars .exit)) (now (attrs .exit)) (now (reply .exit)) ≡ keyPart 48 (world t (now (chars .entry)) (now (attrs .entry))) code at (now (reply .entry)) ⌝ }
+{
+    let a = key::key(t, chars, attrs, code, reply);
+    let state = a.state;
+    PartAnswer {
+        number: a.number,
+        at: at,
+        written: a.written,
+        state: state,
+    }
+}
+
+fn run_post(
+    t: Terminal,
+    chars: &mut [u8],
+    attrs: &[u8],
+    field: usize,
+    text: &[u8],
+    at: usize,
+    reply: &[u8],
+) -> PartAnswer
+    ensures { λ r. ⌜ partLeft r (now (chars .exit)) (now (attrs .entry)) (now (reply .entry)) ≡ postPart 48 (world t (now (chars .entry)) (now (attrs .entry))) field (now (text .entry)) at (now (reply .entry)) ⌝ }
+{
+    let a = post::post(t, chars, attrs, field, text);
+    let state = a.state;
+    PartAnswer {
+        number: a.number,
+        at: at,
+        written: 0,
+        state: state,
+    }
+}
+
+// One session record from its data byte `at` on, its reply bytes to the start of `reply`. 7 from an H record: the reply buffer is full, so call again with an
+// emptied one and the `at` that came back. Any other number ends the record: K and P records run once, a record of another form does nothing.
+pub fn run_from(
+    t: Terminal,
+    chars: &mut [u8],
+    attrs: &mut [u8],
+    bytes: &[u8],
+    at: usize,
+    reply: &mut [u8],
+) -> PartAnswer
+    ensures { λ r. ⌜ partLeft r (now (chars .exit)) (now (attrs .exit)) (now (reply .exit)) ≡ recordPart 48 (world t (now (chars .entry)) (now (attrs .entry))) (now (bytes .entry)) at (now (reply .entry)) ⌝ }
+{
+    let n = refuse_form(bytes);
+    if n != 0 {
+        return PartAnswer {
+            number: n,
+            at: at,
+            written: 0,
+            state: t,
+        };
+    }
+    let kind = bytes[0];
+    let number = number_of(bytes);
+    let end = 4 + bytes[1] as usize;
+    if kind == 72 {
+        return run_host(t, chars, attrs, &bytes[4..end], at, reply);
+    }
+    if kind == 75 {
+        return run_key(t, chars, attrs, (number % 65536) as u16, at, reply);
+    }
+    run_post(t, chars, attrs, number, &bytes[4..end], at, reply)
+}
+
+// One whole session record: its answer, and its reply bytes added up over emptied reply buffers.
+pub fn run(t: Terminal, chars: &mut [u8], attrs: &mut [u8], bytes: &[u8]) -> RanAnswer
+    ensures { λ r. ⌜ ranLeft r (now (chars .exit)) (now (attrs .exit)) ≡ recordRan 48 (world t (now (chars .entry)) (now (attrs .entry))) (now (bytes .entry)) ⌝ }
 {
     let mut u = t;
     let mut at = 0;
     let mut sum = 0;
-    let mut calls = bytes.len() + 1;
+    let mut calls: usize = 81;
     while 0 < calls {
         let mut reply = [0u8; 7680];
-        let a = host::host(u, chars, attrs, &bytes[at..], &mut reply);
+        let a = run_from(u, chars, attrs, bytes, at, &mut reply);
         let state = a.state;
         u = state;
-        at += a.taken;
+        at = a.at;
         sum += a.written;
         if a.number != 7 {
             return RanAnswer {
@@ -99,53 +208,4 @@ fn run_host(t: Terminal, chars: &mut [u8], attrs: &mut [u8], bytes: &[u8]) -> Ra
         replied: sum,
         state: u,
     }
-}
-
-fn run_key(t: Terminal, chars: &mut [u8], attrs: &mut [u8], code: u16) -> RanAnswer
-    ensures { λ r. ⌜ ranLeft r (now (chars .exit)) (now (attrs .exit)) ≡ keyRan 48 (world t (now (chars .entry)) (now (attrs .entry))) code ⌝ }
-{
-    let mut reply = [0u8; 7680];
-    let a = key::key(t, chars, attrs, code, &mut reply);
-    let state = a.state;
-    RanAnswer {
-        answer: a.number,
-        replied: a.written,
-        state: state,
-    }
-}
-
-fn run_post(t: Terminal, chars: &mut [u8], attrs: &[u8], field: usize, text: &[u8]) -> RanAnswer
-    ensures { λ r. ⌜ ranLeft r (now (chars .exit)) (now (attrs .entry)) ≡ postRan 48 (world t (now (chars .entry)) (now (attrs .entry))) field (now (text .entry)) ⌝ }
-{
-    let a = post::post(t, chars, attrs, field, text);
-    let state = a.state;
-    RanAnswer {
-        answer: a.number,
-        replied: 0,
-        state: state,
-    }
-}
-
-// One session record: its answer and its reply bytes. A record of another form does nothing.
-pub fn run(t: Terminal, chars: &mut [u8], attrs: &mut [u8], bytes: &[u8]) -> RanAnswer
-    ensures { λ r. ⌜ ranLeft r (now (chars .exit)) (now (attrs .exit)) ≡ recordRan 48 (world t (now (chars .entry)) (now (attrs .entry))) (now (bytes .entry)) ⌝ }
-{
-    let n = refuse_form(bytes);
-    if n != 0 {
-        return RanAnswer {
-            answer: n,
-            replied: 0,
-            state: t,
-        };
-    }
-    let kind = bytes[0];
-    let number = number_of(bytes);
-    let end = 4 + bytes[1] as usize;
-    if kind == 72 {
-        return run_host(t, chars, attrs, &bytes[4..end]);
-    }
-    if kind == 75 {
-        return run_key(t, chars, attrs, (number % 65536) as u16);
-    }
-    run_post(t, chars, attrs, number, &bytes[4..end])
 }

@@ -3,7 +3,7 @@ use Prim.Native.Nat.{_-_, _≤_}
 use mathlib.Core.Path.{_≡_, refl, _∙_}
 use native.Mathlib.Omega.{arith}
 use lib.ListN.{length, drop}
-use Rattle.records.specs.Sessions.{zeros}
+use Rattle.records.specs.Records.{zeros}
 use Rattle.records.proofs.Forms.{zeros-on, zeros-stop, zeros-end}
 use Rattle.records.proofs.is_zero.Statement.{statement}
 use Rattle.records.proofs.is_zero.Tie as tie

@@ -3,7 +3,7 @@ use mathlib.Core.Path.{ap, sym, _∙_}
 use mathlib.Core.Bool.{true, false}
 use native.Mathlib.Omega.{arith}
 use borrow.Author.Tests.{not-true, not-false}
-use Rattle.records.specs.Sessions.{kindOf, lengthOf, kindFits}
+use Rattle.records.specs.Records.{kindOf, lengthOf, kindFits}
 use Rattle.records.proofs.Forms.{short, long, oversize, unfit, fit}
 use borrow.Author.Needs.{needs}
 use Rattle.records.proofs.refuse_form.Statement.{statement}

@@ -1,42 +1,37 @@
--- `records::run` meets its contract: another form by its answer, each kind by its own function. Assumes nothing.
-use Prim.Native.Nat.{ℕ, _+_, _%_}
-use mathlib.Core.Path.{_≡_, refl, ap, sym, _∙_}
+-- `records::run` meets its contract. The loop's invariant: the calls left, from data byte `at` on, leave what all calls leave; at most 7,680 reply bytes a call are added up. The measure is the calls left. Assumes nothing.
+use Prim.Native.Nat.{ℕ, _+_, _-_, _*_, _≤_, _<_}
+use mathlib.Core.Path.{_≡_, refl, ap, _∙_}
 use native.Mathlib.Omega.{arith}
-use Rattle.terminal.specs.State.{world}
-use Rattle.records.specs.Sessions.{lengthOf, numberOf, dataOf, hostRan, keyRan, postRan}
-use Rattle.records.proofs.Forms.{formed, data-part, data-short}
-use Rattle.records.proofs.Running.{other-form, host-record, key-record, post-record}
 use borrow.Author.Needs.{needs}
+use lib.ListN.{length}
+use Rattle.terminal.specs.State.{world}
+use Rattle.records.specs.Records.{ranFrom, recordRan}
+use Rattle.records.proofs.Whole.{whole-start, call-written, whole-turn, whole-last, whole-none}
 use Rattle.records.proofs.run.Statement.{statement}
 use Rattle.records.proofs.run.Tie as tie
+
+abbrev Inv-loop : tie.InvT-loop
+Inv-loop chars₀ attrs₀ r u₀ at₀ sum₀ calls₀ chars attrs u at sum calls =
+    (sum ≤ (81 - calls) * 7680) × (calls ≤ 81) × (length chars ≡ length chars₀) × (length attrs ≡ length attrs₀)
+    × (ranFrom 48 calls (world u chars attrs) r at sum ≡ recordRan 48 (world u₀ chars₀ attrs₀) r)
+
+abbrev μ-loop : tie.MeasureT-loop
+μ-loop chars₀ attrs₀ r u₀ at₀ sum₀ calls₀ chars attrs u at sum calls = calls
 
 pub run-spec : {M : Type 1} → statement M
 run-spec =
     tie.close
-    (tie.spec
-    (λ c κs. search needs)
-    (λ c. other-form 48 _ _ (c .before .refuse-form .ensures) (c .if1 .taken))
-    (λ c. let t = c .before in let a = t .before .before .before .before .before .args in let r = a .bytes .now in let f = sym (t .before .refuse-form .ensures) ∙ t .if1 .left in omega (arith, formed r f .whole))
-    (λ c κs. let t = c .before in let a = t .before .before .before .before .before .args in let r = a .bytes .now in let f = sym (t .before .refuse-form .ensures) ∙ t .if1 .left in omega (arith, formed r f .whole))
-    (λ c. let t = c .before .before .before in let a = t .before .before .before .before .before .args in let r = a .bytes .now in let f = sym (t .before .refuse-form .ensures) ∙ t .if1 .left in omega (arith, formed r f .whole))
-    (λ c. omega (arith, c .shared-slice-known3 .given 1))
-    (λ c. omega (arith, c .shared-slice-known3 .given 1))
-    (λ c. search needs)
-    (λ c. search needs)
-    (λ c. let t = c .before .before .before .before .before .before in let a = t .before .before .before .before .before .args in let r = a .bytes .now in let f = sym (t .before .refuse-form .ensures) ∙ t .if1 .left in omega (arith, formed r f .whole, formed r f .size-in))
-    (λ c κs. let t = c .before .before .before .before .before .before .before in let a = t .before .before .before .before .before .args in let r = a .bytes .now in let f = sym (t .before .refuse-form .ensures) ∙ t .if1 .left in data-short r (4 + lengthOf r) refl (formed r f .size-in))
-    (λ c. search needs)
-    (λ c. search needs)
-    (λ c. let t = c .before .before .before .before .before .before .before .before .before .before .before .before in let a = t .before .before .before .before .before .args in let r = a .bytes .now in let f = sym (t .before .refuse-form .ensures) ∙ t .if1 .left in let w = world (a .t) (a .chars .now) (a .attrs .now) in c .before .before .before .before .run-host .ensures ∙ ap (hostRan 48 w) (data-part r (4 + lengthOf r) refl) ∙ host-record 48 w r f (c .before .before .before .before .before .before .before .before .if2 .taken))
+    (tie.spec Inv-loop μ-loop
+    (λ c. (omega arith, omega arith, refl, refl, whole-start 48 _ _))
     (λ c. search needs)
     (λ c κs. search needs)
-    (λ c. search needs)
-    (λ c. search needs)
-    (λ c. let t = c .before .before .before .before .before .before .before .before .before .before .before .before in let a = t .before .before .before .before .before .args in let r = a .bytes .now in let f = sym (t .before .refuse-form .ensures) ∙ t .if1 .left in let w = world (a .t) (a .chars .now) (a .attrs .now) in let e : c .before .before .before .before .before .before .before .before .before .before .number-of .result % 65536 ≡ numberOf r = omega (arith, c .before .before .before .before .before .before .before .before .before .before .number-of .ensures, c .before .before .before .before .before .before .before .before .before .before .before .shared-slice-known2 .given 2, c .before .before .before .before .before .before .before .before .before .before .before .shared-slice-known2 .given 3) in c .before .before .before .before .run-key .ensures ∙ ap (keyRan 48 w) e ∙ key-record 48 w r f (c .before .before .before .before .before .before .before .before .if2 .left) (c .before .before .before .before .before .before .before .if3 .taken))
-    (λ c. search needs)
-    (λ c. search needs)
-    (λ c. let t = c .before .before .before .before .before .before .before in let a = t .before .before .before .before .before .args in let r = a .bytes .now in let f = sym (t .before .refuse-form .ensures) ∙ t .if1 .left in omega (arith, formed r f .whole, formed r f .size-in))
-    (λ c κs. search needs)
-    (λ c. search needs)
-    (λ c. search needs)
-    (λ c. let t = c .before .before .before .before .before .before .before .before .before .before .before in let a = t .before .before .before .before .before .args in let r = a .bytes .now in let f = sym (t .before .refuse-form .ensures) ∙ t .if1 .left in let w = world (a .t) (a .chars .now) (a .attrs .now) in c .before .before .run-post .ensures ∙ ap (postRan 48 w (c .before .before .before .before .before .before .before .before .before .number-of .result)) (data-part r (4 + lengthOf r) refl) ∙ ap (λ (n : ℕ). postRan 48 w n (dataOf r)) (c .before .before .before .before .before .before .before .before .before .number-of .ensures) ∙ post-record 48 w r f (c .before .before .before .before .before .before .before .if2 .left) (c .before .before .before .before .before .before .if3 .left)))
+    (λ c. let h = c .before .before .before .before .before .before .before in let l = h .before .before .before .before .before .loop in let a = h .before .before .before .before .before .before .before .before .before .args in let w = world (l .u) (l .chars) (l .attrs) in let e = h .run-from .ensures in omega (arith, call-written 48 w (a .bytes .now) (l .at) (l .sum) e (omega arith), l .inv .0))
+    (λ c. c .before .before .before .before .before .before .before .before .before .run-from .kept .1 .0 ∙ c .before .before .before .before .before .before .before .before .before .before .before .before .before .before .loop .inv .2)
+    (λ c. c .before .before .before .before .before .before .before .before .before .run-from .kept .1 .1 .0 ∙ c .before .before .before .before .before .before .before .before .before .before .before .before .before .before .loop .inv .3)
+    (λ c. let h = c .before .before .before .before .before .before .before .before .before in let l = h .before .before .before .before .before .loop in let a = h .before .before .before .before .before .before .before .before .before .args in let w = world (l .u) (l .chars) (l .attrs) in let e = h .run-from .ensures in whole-last 48 w (a .bytes .now) (l .at) (l .sum) e (l .calls) (h .before .before .before .before .loop-test .taken) (c .if1 .taken) ∙ l .inv .4)
+    (λ c. omega (arith, c .before .before .before .before .before .before .before .before .before .before .before .before .before .loop-test))
+    (λ c. omega (arith, c .before .before .before .before .before .before .before .before .before .before .before .before .before .loop-test))
+    (λ c. let h = c .before .before .before .before .before .before .before .before .before in let l = h .before .before .before .before .before .loop in let a = h .before .before .before .before .before .before .before .before .before .args in let w = world (l .u) (l .chars) (l .attrs) in let e = h .run-from .ensures in let t : 0 < l .calls = h .before .before .before .before .loop-test .taken in (omega (arith, call-written 48 w (a .bytes .now) (l .at) (l .sum) e (omega arith), l .inv .0, l .inv .1, t), omega (arith, l .inv .1), h .run-from .kept .1 .0 ∙ l .inv .2, h .run-from .kept .1 .1 .0 ∙ l .inv .3, whole-turn 48 w (a .bytes .now) (l .at) (l .sum) e (l .calls) t (omega (arith, c .if1 .left)) ∙ l .inv .4))
+    (λ c. c .before .loop .inv .2)
+    (λ c. c .before .loop .inv .3)
+    (λ c. whole-none 48 (c .before .loop .calls) _ _ _ _ (omega arith) ∙ c .before .loop .inv .4))
