@@ -1,0 +1,3 @@
+-- The laws of sessions.
+pub mod Text
+pub mod Listing

@@ -1,0 +1,3 @@
+-- The definitions of sessions.
+pub mod Session
+pub mod Parts
