@@ -2,3 +2,5 @@
 pub mod Forms
 pub mod Running
 pub mod Whole
+pub mod Answered
+pub mod Once

@@ -59,12 +59,12 @@ listing-start rows w number bytes lines = refl
 
 module _ (rows : ℕ) (w : World) (rest : List ℕ) (taken to number : ℕ) (lines : List ℕ) where
   -- what is left after the record x with the bytes r
-  abbrev onward : List ℕ → Ran → Listed
+  abbrev pub onward : List ℕ → Ran → Listed
   onward r x =
       let line = three number (x .answer) (x .replied) in
       listedOn rows (split (drop 84 rest)) (taken + length r) (to + length line) (next number) (x .world) (written lines to line)
 
-  step : 0 < length rest → to + 63 ≤ length lines → onward (take 84 rest) (recordRan rows w (take 84 rest)) ≡ listedOn rows (split rest) taken to number w lines
+  pub step : 0 < length rest → to + 63 ≤ length lines → onward (take 84 rest) (recordRan rows w (take 84 rest)) ≡ listedOn rows (split rest) taken to number w lines
   unfolding listedOn
   step h l = rw (split-more rest h, le-leb (to + 63) (length lines) l)
 

@@ -66,8 +66,12 @@ linesText (l ∷ ls) = three (l .number) (l .answer) (l .replied) ++ linesText l
 unfoldable pub endText : Cursor → List ℕ
 endText c = 101 ∷ 110 ∷ 100 ∷ 32 ∷ three (c .row) (c .col) (c .top)
 
+-- what records print from a number and a terminal on: their lines, then the end line
+unfoldable pub printed : ℕ → ℕ → World → List (List ℕ) → List ℕ
+printed rows number w rs =
+    let v = went rows number w rs in
+    linesText (v .lines) ++ endText (v .world .state .cursor)
+
 -- what the session program prints
 unfoldable pub sessionText : ℕ → List ℕ → List ℕ
-sessionText rows bytes =
-    let v = session rows bytes in
-    linesText (v .lines) ++ endText (v .world .state .cursor)
+sessionText rows bytes = printed rows 0 (freshWorld rows) (split bytes)
