@@ -13,10 +13,10 @@ use Rattle.reading.proofs.Rules.{either}
 use Rattle.replies.proofs.Longest.{cursor-length, status-length, block-longest}
 use Rattle.screen.proofs.Kept.{choose-by}
 use Rattle.terminal.specs.State.{World, Sound}
-use Rattle.terminal.proofs.Good.{in-sound}
-use Rattle.host.specs.Streams.{actionFor, pendingReply, replyTo, answerTo, stepped, Hosted, ran, fed}
-use Rattle.host.proofs.Streams.{ran-counts, step-fits}
-use Rattle.host.proofs.Kept.{ran-number}
+use Rattle.host.specs.Streams.{actionFor, pendingReply, replyTo, answerTo, stepped, Hosted, fedOn, fed}
+use Rattle.host.proofs.Streams.{fedOn-counts, step-fits}
+use Rattle.host.proofs.Steps.{fed-on}
+use Rattle.host.proofs.Kept.{fedOn-number}
 
 module _ {rows : ℕ} {w : World} (s : Sound rows w) where
   pub answer-longest : (byte : ℕ) → length (answerTo byte w) ≤ rows * 160
@@ -35,24 +35,19 @@ module _ {rows : ℕ} {w : World} (s : Sound rows w) where
       (either P (eqb (t .pending) 4) (omega (arith, block-longest (w .chars) (c .row) (omega (arith, s .chars-long)) (t .format) (w .attrs), s .chars-long)) (omega arith)))))
       (omega arith))
 
-  -- a sound call runs its stream
-  pub fed-ran : (bytes reply : List ℕ) → fed rows w bytes reply ≡ ran rows bytes 0 0 w reply
-  unfolding fed
-  fed-ran bytes reply = rw (in-sound s .0, in-sound s .1)
-
-  ran-takes : (bytes reply : List ℕ) → length reply ≡ rows * 160 → ran rows bytes 0 0 w reply .number ≡ 7 → 0 < ran rows bytes 0 0 w reply .taken
-  unfolding ran
-  ran-takes [] reply l = λ z. absurd (omega arith)
-  ran-takes (b ∷ bs) reply l =
+  on-takes : (bytes reply : List ℕ) → length reply ≡ rows * 160 → fedOn rows bytes 0 0 w reply .number ≡ 7 → 0 < fedOn rows bytes 0 0 w reply .taken
+  unfolding fedOn
+  on-takes [] reply l = λ z. absurd (omega arith)
+  on-takes (b ∷ bs) reply l =
       choose-by (λ (h : Hosted). h .number ≡ 7 → 0 < h .taken) (leb (0 + length (answerTo b w)) (length reply))
       (λ t _.
       let fits = step-fits 0 b w reply (leb-true (0 + length (answerTo b w)) (length reply) t) in
-      omega (arith, ran-counts rows bs (0 + 1) (0 + length (answerTo b w)) (stepped rows b w) (written reply 0 (answerTo b w)) fits .taken-from))
+      omega (arith, fedOn-counts rows bs (0 + 1) (0 + length (answerTo b w)) (stepped rows b w) (written reply 0 (answerTo b w)) fits .taken-from))
       (λ t. absurd (omega (arith, leb-false (0 + length (answerTo b w)) (length reply) t, answer-longest b)))
 
   -- a call that does not take all takes at least one byte; its number is 0 or 7
   pub fed-takes : (bytes reply : List ℕ) → length reply ≡ rows * 160 → fed rows w bytes reply .number ≡ 7 → 0 < fed rows w bytes reply .taken
-  fed-takes bytes reply l = rw (fed-ran bytes reply) (ran-takes bytes reply l)
+  fed-takes bytes reply l = rw (fed-on s bytes reply) (on-takes bytes reply l)
 
   pub fed-number : (bytes reply : List ℕ) → (fed rows w bytes reply .number ≡ 0) ⊎ (fed rows w bytes reply .number ≡ 7)
-  fed-number bytes reply = rw (fed-ran bytes reply) (ran-number rows bytes 0 0 w reply)
+  fed-number bytes reply = rw (fed-on s bytes reply) (fedOn-number rows bytes 0 0 w reply)

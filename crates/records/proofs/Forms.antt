@@ -1,16 +1,18 @@
 -- The form of a record: the tests in their order, what a well-formed record is, its number and its data. Assumes nothing.
 use Prim.Native.Nat.{ℕ, zero, suc, _+_, _-_, _≤_, _<_}
 use mathlib.Core.Path.{_≡_, refl, ap, sym, _∙_}
-use mathlib.Core.Bool.{Bool, true, false, cond, _&&_, and-eq-true-iff}
+use mathlib.Core.Bool.{Bool, true, false, cond, _&&_, not, and-eq-true-iff}
 use mathlib.Core.List.{List, [], _∷_}
 use native.Mathlib.Omega.{arith}
 use native.Mathlib.Numerals.{add-one}
 use lib.ListN.{length, take, drop, getD, length-take}
 use lib.Seq.{slice, drop-cons, drop-length, take-nil}
 use lib.Dec.{leb, ltb, eqb}
-use borrow.Author.Tests.{eqb-true, leb-true, eq-eqb, ne-eqb, lt-ltb, le-ltb, le-leb, lt-leb}
-use Rattle.screen.proofs.Kept.{choose-by}
-use Rattle.records.specs.Records.{kindOf, lengthOf, numberOf, dataOf, zeros, kindFits, formRefusal}
+use borrow.Author.Tests.{eqb-true, leb-true, eq-eqb, ne-eqb, lt-ltb, le-ltb, le-leb, lt-leb, not-false}
+use Rattle.reading.proofs.Rules.{either}
+use Rattle.terminal.specs.Refusals.{firstRefusal}
+use Rattle.terminal.proofs.Refusals.{passed}
+use Rattle.records.specs.Records.{kindOf, lengthOf, numberOf, dataOf, zeros, kindFits, isFormed, formRefusal}
 
 -- ---- zeros, at byte i
 module _ (bytes : List ℕ) (i : ℕ) (h : i < length bytes) where
@@ -34,12 +36,12 @@ module _ (r : List ℕ) where
   abbrev blank : Bool
   blank = zeros (drop (4 + lengthOf r) r)
 
-  by-tests : {a b c d : Bool} → ltb (length r) 84 ≡ false → eqb (length r) 84 ≡ a → leb (lengthOf r) 80 ≡ b → fitting ≡ c → blank ≡ d → cond (a && (b && (c && d))) 0 11 ≡ formRefusal r
-  unfolding formRefusal
-  by-tests l p q s t = sym (ap (λ (x : Bool). cond x 12 (cond (eqb (length r) 84 && (leb (lengthOf r) 80 && (fitting && blank))) 0 11)) l ∙ cc)
+  by-tests : {a b c d : Bool} → ltb (length r) 84 ≡ false → eqb (length r) 84 ≡ a → leb (lengthOf r) 80 ≡ b → fitting ≡ c → blank ≡ d → cond (not (a && (b && (c && d)))) 11 0 ≡ formRefusal r
+  unfolding formRefusal firstRefusal
+  by-tests l p q s t = sym (ap (λ (x : Bool). cond x 12 (cond (not (isFormed r)) 11 0)) l ∙ cc)
 
   pub short : length r < 84 → 12 ≡ formRefusal r
-  unfolding formRefusal
+  unfolding formRefusal firstRefusal
   short h = rw (lt-ltb (length r) 84 h)
 
   pub long : 84 ≤ length r → (length r ≡ 84 → ⊥) → 11 ≡ formRefusal r
@@ -52,8 +54,19 @@ module _ (r : List ℕ) where
     pub unfit : lengthOf r ≤ 80 → fitting ≡ false → 11 ≡ formRefusal r
     unfit h f = by-tests (le-ltb (length r) 84 (omega arith)) (eq-eqb _ _ e) (le-leb _ _ h) f refl
 
-    pub fit : lengthOf r ≤ 80 → fitting ≡ true → {z : Bool} → blank ≡ z → cond z 0 11 ≡ formRefusal r
+    pub fit : lengthOf r ≤ 80 → fitting ≡ true → {z : Bool} → blank ≡ z → cond (not z) 11 0 ≡ formRefusal r
     fit h f z = by-tests (le-ltb (length r) 84 (omega arith)) (eq-eqb _ _ e) (le-leb _ _ h) f z
+
+  -- the number is 0, 11 or 12
+  pub eleven : 84 ≤ length r → (formRefusal r ≡ 0 → ⊥) → formRefusal r ≡ 11
+  unfolding formRefusal firstRefusal
+  eleven h = rw (le-ltb (length r) 84 h) (either (λ (n : ℕ). (n ≡ 0 → ⊥) → n ≡ 11) (not (isFormed r)) (λ _. refl) (λ z. absurd (z refl)))
+
+  pub form-not-7 : formRefusal r ≡ 7 → ⊥
+  unfolding formRefusal firstRefusal
+  form-not-7 =
+      let P : ℕ → Type 0 = λ n. n ≡ 7 → ⊥ in
+      either P (ltb (length r) 84) (λ z. omega arith) (either P (not (isFormed r)) (λ z. omega arith) (λ z. omega arith))
 
 -- ---- a well-formed record
 pub record Formed (r : List ℕ) : Type 0 where
@@ -63,17 +76,14 @@ pub record Formed (r : List ℕ) : Type 0 where
   pub rest-zero : zeros (drop (4 + lengthOf r) r) ≡ true
 
 pub formed : (r : List ℕ) → formRefusal r ≡ 0 → Formed r
-unfolding formRefusal
-formed r =
-    let P : ℕ → Type 0 = λ n. n ≡ 0 → Formed r in
-    choose-by P (ltb (length r) 84) (λ _ z. absurd (omega arith))
-    (λ _. choose-by P (eqb (length r) 84 && (leb (lengthOf r) 80 && (fitting r && blank r)))
-    (λ t _.
-    let a = and-eq-true-iff (eqb (length r) 84) _ .0 t in
+unfolding formRefusal firstRefusal
+formed r e =
+    let s = passed (ltb (length r) 84) (λ z. omega arith) e in
+    let t = passed (not (isFormed r)) (λ z. omega arith) (s .1) in
+    let a = and-eq-true-iff (eqb (length r) 84) _ .0 (not-false _ (t .0)) in
     let b = and-eq-true-iff (leb (lengthOf r) 80) _ .0 (a .1) in
     let d = and-eq-true-iff (fitting r) (blank r) .0 (b .1) in
-    record { whole = eqb-true _ _ (a .0); size-in = leb-true _ _ (b .0); kind-fits = d .0; rest-zero = d .1 })
-    (λ _ z. absurd (omega arith)))
+    record { whole = eqb-true _ _ (a .0); size-in = leb-true _ _ (b .0); kind-fits = d .0; rest-zero = d .1 }
 
 -- ---- the data, as a part of the record
 take-drop : (n m t : ℕ) (xs : List ℕ) → t ≡ n + m → take m (drop n xs) ≡ slice n t xs

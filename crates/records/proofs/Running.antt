@@ -1,6 +1,6 @@
 -- What a part of a record is, by its form and its kind, and its counts. Assumes nothing.
 use Prim.Native.Nat.{ℕ, zero, suc, _-_, _≤_, min}
-use mathlib.Core.Path.{_≡_, refl, ap, _∙_}
+use mathlib.Core.Path.{_≡_, ap, _∙_}
 use mathlib.Core.List.{List, [], _∷_}
 use native.Mathlib.Omega.{arith}
 use lib.ListN.{length, take, drop, length-drop}
@@ -8,10 +8,11 @@ use lib.Seq.{take-all, drop-nil}
 use lib.Dec.{eqb}
 use borrow.Author.Tests.{eq-eqb, ne-eqb}
 use Rattle.reading.proofs.Rules.{either}
-use Rattle.terminal.specs.State.{World, isGood, isSized}
+use Rattle.terminal.specs.State.{World}
 use Rattle.key.proofs.Kept.{key-counts}
-use Rattle.host.specs.Streams.{Hosted, hosted, fed}
-use Rattle.host.proofs.Streams.{ran-counts}
+use Rattle.host.specs.Streams.{Hosted, fed}
+use Rattle.host.proofs.Kept.{fed-by}
+use Rattle.host.proofs.Streams.{fedOn-counts}
 use Rattle.records.specs.Records.{kindOf, numberOf, dataOf, formRefusal, Part, part, hostPart, keyPart, postPart, recordPart}
 
 module _ (rows : ℕ) (w : World) (r : List ℕ) (at : ℕ) (reply : List ℕ) where
@@ -40,13 +41,10 @@ pub record Within (bytes reply : List ℕ) (h : Hosted) : Type 0 where
   pub written-in : h .written ≤ length reply
 
 pub fed-within : (rows : ℕ) (w : World) (bytes reply : List ℕ) → Within bytes reply (fed rows w bytes reply)
-unfolding fed
 fed-within rows w bytes reply =
-    let P : Hosted → Type 0 = Within bytes reply in
-    let c = ran-counts rows bytes 0 0 w reply (omega arith) in
-    let none : (n : ℕ) → P (hosted n 0 0 w reply) = λ n. record { taken-in = omega arith; written-in = omega arith } in
-    either P (isSized rows (w .chars) (w .attrs))
-    (either P (isGood rows (w .state)) (record { taken-in = omega (arith, c .taken-upto); written-in = c .sent-upto }) (none 2)) (none 1)
+    let c = fedOn-counts rows bytes 0 0 w reply (omega arith) in
+    fed-by (Within bytes reply) rows w bytes reply (λ _ _. record { taken-in = omega (arith, c .taken-upto); written-in = c .sent-upto })
+    (λ _ _. record { taken-in = omega arith; written-in = omega arith })
 
 -- the bytes from `at` on, as a part of all
 pub from-on : (bytes : List ℕ) (at : ℕ) {from : ℕ} → from ≡ min at (length bytes) → take (length bytes - from) (drop from bytes) ≡ drop at bytes

@@ -18,11 +18,11 @@ module _ (rows : ℕ) (w : World) (r : List ℕ) (at sum : ℕ) {p : Part} (e : 
   pub call-written : rows ≤ 96 → p .written ≤ rows * 160
   call-written f = omega (arith, part-written rows f w r at (emptied rows), ap (λ (k : Part). k .written) e, length-replicate {A = ℕ} (rows * 160) 0)
 
-  turn : (calls : ℕ) → p .number ≡ 7 → ranFrom rows calls (p .world) r (p .at) (sum + p .written) ≡ ranFrom rows (suc calls) w r at sum
+  pub turn : (calls : ℕ) → p .number ≡ 7 → ranFrom rows calls (p .world) r (p .at) (sum + p .written) ≡ ranFrom rows (suc calls) w r at sum
   unfolding ranFrom
   turn calls s = rw (← e, eq-eqb (p .number) 7 s)
 
-  last : (calls : ℕ) → (p .number ≡ 7 → ⊥) → ran (p .number) (sum + p .written) (p .world) ≡ ranFrom rows (suc calls) w r at sum
+  pub last : (calls : ℕ) → (p .number ≡ 7 → ⊥) → ran (p .number) (sum + p .written) (p .world) ≡ ranFrom rows (suc calls) w r at sum
   unfolding ranFrom
   last calls n = rw (← e, ne-eqb (p .number) 7 n)
 

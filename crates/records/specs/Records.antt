@@ -1,11 +1,12 @@
 -- Session records (document 01, 'Session program'): what a record is, and what running one on a terminal answers and leaves. Assumes nothing.
 use Prim.Native.Nat.{ℕ, zero, suc, _+_, _*_}
-use mathlib.Core.Bool.{Bool, true, cond, _&&_}
+use mathlib.Core.Bool.{Bool, true, cond, _&&_, not}
 use mathlib.Core.List.{List, [], _∷_}
 use lib.ListN.{length, getD, drop, replicate}
 use lib.Seq.{slice}
 use lib.Dec.{leb, ltb, eqb}
 use Rattle.terminal.specs.State.{World, world}
+use Rattle.terminal.specs.Refusals.{_when_, firstRefusal}
 use Rattle.key.specs.Keys.{keyed}
 use Rattle.post.specs.Posts.{postedTo}
 use Rattle.host.specs.Streams.{fed}
@@ -34,11 +35,13 @@ zeros (b ∷ bs) = eqb b 0 && zeros bs
 abbrev pub kindFits : ℕ → ℕ → ℕ → Bool
 kindFits kind size number = cond (eqb kind 72) (eqb number 0) (cond (eqb kind 75) (eqb size 0) (eqb kind 80))
 
--- 11 for other forms, 12 for a part under 84 bytes, 0 for a record
+-- 84 bytes, a length of at most 80, a number and a length that fit the kind, and unused bytes 0
+abbrev pub isFormed : List ℕ → Bool
+isFormed r = eqb (length r) 84 && (leb (lengthOf r) 80 && (kindFits (kindOf r) (lengthOf r) (numberOf r) && zeros (drop (4 + lengthOf r) r)))
+
+-- 12 for a part under 84 bytes, 11 for other forms; 0 for a record
 unfoldable pub formRefusal : List ℕ → ℕ
-formRefusal r =
-    cond (ltb (length r) 84) 12
-    (cond (eqb (length r) 84 && (leb (lengthOf r) 80 && (kindFits (kindOf r) (lengthOf r) (numberOf r) && zeros (drop (4 + lengthOf r) r)))) 0 11)
+formRefusal r = firstRefusal ((12 when ltb (length r) 84) ∷ (11 when not (isFormed r)) ∷ [])
 
 -- ---- one call
 

@@ -12,7 +12,7 @@ use borrow.Author.Tests.{lt-ltb, le-ltb, le-leb, lt-leb, leb-true, leb-false}
 use Rattle.io.specs.Digits.{digits, Fewest}
 use Rattle.cells.specs.Memory.{written}
 use Rattle.cells.proofs.Splice.{written-twice}
-use Rattle.replies.proofs.Writing.{Writing, none-yet, many-more, one-more, all-written}
+use Rattle.replies.proofs.Writing.{none-yet, many-more, one-more, all-written}
 use Rattle.cursor.specs.declared.Cursor.{Cursor}
 use Rattle.sessions.specs.Session.{decimalIn, decimal, three, endText}
 use Rattle.sessions.specs.Parts.{ended, endWritten}

@@ -1,6 +1,6 @@
 -- `records::run` meets its contract. The loop's invariant: the calls left, from data byte `at` on, leave what all calls leave; at most 7,680 reply bytes a call are added up. The measure is the calls left. Assumes nothing.
-use Prim.Native.Nat.{ℕ, _+_, _-_, _*_, _≤_, _<_}
-use mathlib.Core.Path.{_≡_, refl, ap, _∙_}
+use Prim.Native.Nat.{_-_, _*_, _≤_, _<_}
+use mathlib.Core.Path.{_≡_, refl, _∙_}
 use native.Mathlib.Omega.{arith}
 use borrow.Author.Needs.{needs}
 use lib.ListN.{length}

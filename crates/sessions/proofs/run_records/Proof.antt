@@ -1,5 +1,5 @@
 -- `sessions::run_records` meets its contract. The loop's invariant: the records of the bytes left, run with the lines left, leave what all records leave. The measure is the bytes left. Assumes nothing.
-use Prim.Native.Nat.{_+_, _-_, _≤_}
+use Prim.Native.Nat.{_-_, _≤_}
 use mathlib.Core.Path.{_≡_, refl, _∙_}
 use native.Mathlib.Omega.{arith}
 use lib.ListN.{length, drop, length-drop}
