@@ -182,7 +182,7 @@ module _ (rows : ℕ) (w : World) (r : List ℕ) where
         sym (ended e (u .none-written) (u .same-world)) ∙ whole-once rows w r (host-call rows r f k w 0) (λ q. ⊎-elim (λ p. omega arith) (λ p. omega arith) o)
 
     module _ (h : ¬ (kindOf r ≡ 72)) where
-      ran-key : 0 < rows → kindOf r ≡ 75 → let k = keyed rows w (emptied rows) (numberOf r) in ran (k .number) (k .written) (k .world) ≡ recordRan rows w r
+      ran-key : 24 ≤ rows → kindOf r ≡ 75 → let k = keyed rows w (emptied rows) (numberOf r) in ran (k .number) (k .written) (k .world) ≡ recordRan rows w r
       unfolding keyPart
       ran-key l k =
           whole-once rows w r (key-record rows w r 0 (emptied rows) f h k)
@@ -229,7 +229,7 @@ began rows few w bytes reply = by (host-chosen rows w bytes reply)
     by (later n (later m rest)) = ready n m (sound-of rows w few n m)
 
 -- ---- the numbers of a whole record
-module _ (rows : ℕ) (some : 0 < rows) (few : rows ≤ 96) (w : World) (r : List ℕ) where
+module _ (rows : ℕ) (some : 24 ≤ rows) (few : rows ≤ 96) (w : World) (r : List ℕ) where
   host-given : formRefusal r ≡ 0 → kindOf r ≡ 72 → Chosen ((1 for WrongSize rows (w .chars) (w .attrs)) ∷ (2 for NotGood rows w) ∷ []) (recordRan rows w r .answer)
   host-given f k = by (began rows few w (dataOf r) (emptied rows))
     where
@@ -277,7 +277,7 @@ module _ (rows : ℕ) (some : 0 < rows) (few : rows ≤ 96) (w : World) (r : Lis
       by false t = subst L (ran-other rows w r (eqb-false _ _ t)) (λ _. (refl, refl))
 
 -- ---- the promises
-module _ (rows : ℕ) (some : 0 < rows) (few : rows ≤ 96) where
+module _ (rows : ℕ) (some : 24 ≤ rows) (few : rows ≤ 96) where
   pub record-numbers : RecordNumbers rows
   record-numbers w r = given (record-chosen rows some few w r) (record-differ rows some few w r (eqb (kindOf r) 72) (eqb (kindOf r) 75))
 

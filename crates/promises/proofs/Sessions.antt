@@ -18,7 +18,7 @@ use Rattle.promises.proofs.Refusals.{good-stays}
 use Rattle.promises.proofs.Records.{record-numbers}
 
 -- ---- lines
-module _ (rows : ℕ) (some : 0 < rows) (few : rows ≤ 96) where
+module _ (rows : ℕ) (some : 24 ≤ rows) (few : rows ≤ 96) where
   lined : (rs : List (List ℕ)) (number : ℕ) (w : World) → Lined rows number w rs (went rows number w rs .lines)
   unfolding went
   lined [] number w = refl
@@ -33,11 +33,11 @@ module _ (rows : ℕ) (some : 0 < rows) (few : rows ≤ 96) where
   went-good [] number w g = g
   went-good (r ∷ rs) number w g = went-good rs (next number) (recordRan rows w r .world) (record-good rows few r w g)
 
-  pub session-good : 24 ≤ rows → SessionGood rows
+  pub session-good : SessionGood rows
   unfolding session
-  session-good tall = (
+  session-good = (
     λ number w rs g. good-stays rows few [] (went rows number w rs .world) (went-good rs number w g),
-    λ bytes. good-stays rows few [] (went rows 0 (freshWorld rows) (split bytes) .world) (went-good (split bytes) 0 (freshWorld rows) (fresh-sound tall few .good)),
+    λ bytes. good-stays rows few [] (went rows 0 (freshWorld rows) (split bytes) .world) (went-good (split bytes) 0 (freshWorld rows) (fresh-sound some few .good)),
   )
 
 numbered : (rows : ℕ) (rs : List (List ℕ)) (number : ℕ) (w : World) (i : ℕ) (l : Line) → number ≤ 18446744073709551615 → i < length (went rows number w rs .lines)
