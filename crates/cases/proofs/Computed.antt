@@ -1,6 +1,5 @@
 -- All of document 01's cases hold: the checker computes them. Assumes nothing.
-use mathlib.Core.Path.{_≡_, refl}
-use mathlib.Core.List.{[]}
+use mathlib.Core.Path.{refl}
 use Rattle.cells.specs.Search.{firstOf, lastOf, allOf, countOf, nthOf, firstIn, lastIn, countIn}
 use Rattle.cells.specs.Memory.{patchFrom, patch, filled, shiftedRight, shiftedLeft, filledWhereFrom, filledWhere, movedUp, movedDown, written, posted}
 use Rattle.cursor.specs.Cursor.{gone, atCell, goneUp, goneDown, goneLeft, goneRight, inColumn, homeAt, risen, fallen, isPlaced}

@@ -1,6 +1,6 @@
 -- From a sound world no reply is longer than an emptied reply buffer of rows × 160 bytes, so a call with one takes a byte or is done. Assumes nothing.
 use Prim.Native.Nat.{ℕ, _+_, _-_, _*_, _≤_, _<_}
-use mathlib.Core.Path.{_≡_}
+use mathlib.Core.Path.{_≡_, sym, _∙_}
 use mathlib.Core.Logic.{_⊎_}
 use mathlib.Core.List.{List, [], _∷_}
 use native.Mathlib.Omega.{arith}
@@ -32,7 +32,7 @@ module _ {rows : ℕ} {w : World} (s : Sound rows w) where
       (either P (eqb (t .pending) 1) (omega (arith, cursor-length (c .col) (c .row) 82))
       (either P (eqb (t .pending) 2) (omega (arith, cursor-length (c .col) (c .row - c .top) 89))
       (either P (eqb (t .pending) 3) (omega (arith, status-length (t .format) (t .insert) (t .lock)))
-      (either P (eqb (t .pending) 4) (omega (arith, block-longest (w .chars) (c .row) (omega (arith, s .chars-long)) (t .format) (w .attrs), s .chars-long)) (omega arith)))))
+      (either P (eqb (t .pending) 4) (omega (arith, block-longest (w .chars) (c .row) (omega (arith, s .chars-long)) (t .format) (w .attrs) (s .chars-long ∙ sym (s .attrs-long)), s .chars-long)) (omega arith)))))
       (omega arith))
 
   on-takes : (bytes reply : List ℕ) → length reply ≡ rows * 160 → fedOn rows bytes 0 0 w reply .number ≡ 7 → 0 < fedOn rows bytes 0 0 w reply .taken

@@ -14,7 +14,6 @@ use Rattle.cells.proofs.Patch.{inside-true}
 use Rattle.cells.proofs.Values.{posted-cell}
 use Rattle.cells.proofs.Splice.{length-posted}
 use Rattle.fields.specs.Fields.{marks, fieldEnd, holds}
-use Rattle.fields.proofs.Marks.{length-marks}
 use Rattle.fields.proofs.Fields.{field-ends}
 use Rattle.fields.proofs.Numbers.{field-holds, holds-field}
 use Rattle.terminal.specs.State.{World}
@@ -50,9 +49,7 @@ module _ (rows : ℕ) (w : World) (field : ℕ) (text : List ℕ) (r : PostReady
 
   -- the field's cells are those from its start to its end
   in-field : (cell : ℕ) → r .start ≤ cell → cell < end → holds (marks (w .attrs)) field cell ≡ true
-  in-field cell l u =
-      field-holds (marks (w .attrs)) field (r .start) cell (r .found) l u
-      (omega (arith, ends-in, length-marks (w .attrs), r .sound .chars-long, r .sound .attrs-long))
+  in-field cell l u = field-holds (marks (w .attrs)) field (r .start) cell (r .found) l u
 
   of-field : (cell : ℕ) → holds (marks (w .attrs)) field cell ≡ true → (r .start ≤ cell) × (cell < end)
   of-field cell h =
