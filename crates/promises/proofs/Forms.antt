@@ -11,7 +11,7 @@ use lib.Dec.{eqb, ltb}
 use borrow.Author.Tests.{eqb-true, eqb-false, eq-eqb, ne-eqb, ltb-true, ltb-false}
 use Rattle.records.specs.Records.{kindOf, lengthOf, numberOf, zeros, kindFits, formRefusal}
 use Rattle.records.proofs.Forms.{short, fit, eleven, formed}
-use Rattle.promises.specs.Numbers.{Line, _for_}
+use Rattle.promises.specs.Numbers.{Entry, _for_}
 use Rattle.promises.specs.Sessions.{ShortRecord, WellFormed, OtherForm}
 use Rattle.promises.proofs.Tables.{Chosen, applies, passes}
 
@@ -64,7 +64,7 @@ module _ (r : List ℕ) where
       sym (fit r (f .whole) (f .length-in) (in-fits (kindOf r) (lengthOf r) (numberOf r) (f .kind-fits)) z)
 
   -- 12, then 11, then the tests after them
-  pub form-chosen : {k : ℕ} {ls : List Line} → (¬ (formRefusal r ≡ 0) → k ≡ formRefusal r) → (formRefusal r ≡ 0 → Chosen ls k)
+  pub form-chosen : {k : ℕ} {ls : List Entry} → (¬ (formRefusal r ≡ 0) → k ≡ formRefusal r) → (formRefusal r ≡ 0 → Chosen ls k)
       → Chosen ((12 for ShortRecord r) ∷ (11 for OtherForm r) ∷ ls) k
   form-chosen {k} {ls} refuses rest = by (ltb (length r) 84) refl
     where

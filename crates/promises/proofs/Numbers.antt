@@ -29,7 +29,7 @@ use Rattle.post.specs.Posts.{fits, allFit, tooLong, misfits, postRefusal, poste
 use Rattle.host.specs.Streams.{answerTo, stepped, Hosted, hosted, fedOn, hostRefusal, fed}
 use Rattle.host.proofs.Kept.{fedOn-number}
 use Rattle.mixing.specs.Event.{run}
-use Rattle.promises.specs.Numbers.{Line, _for_, WrongSize, NotGood, Text, Listed, NotListed, Barred, NoTarget, NotAllowed, NoRoom, NoField, TooLong, BadByte, sent, ShortOfRoom, freshTable, keyTable, postTable, hostTable, FreshNumbers, KeyNumbers, PostNumbers, HostNumbers}
+use Rattle.promises.specs.Numbers.{Entry, _for_, WrongSize, NotGood, Text, Listed, NotListed, Barred, NoTarget, NotAllowed, NoRoom, NoField, TooLong, BadByte, sent, ShortOfRoom, freshTable, keyTable, postTable, hostTable, FreshNumbers, KeyNumbers, PostNumbers, HostNumbers}
 use Rattle.promises.proofs.Tables.{Chosen, none, applies, passes, Tested, untested, tested, tested-chosen, given}
 
 -- a test that cannot be true is false
@@ -58,7 +58,7 @@ module _ (rows : ℕ) (w : World) where
   is-good e n = n (good-in rows (w .state) e)
 
 -- ---- 1 and 2, before the other tests
-ready : (rows : ℕ) (w : World) {rs : List Refusal} {ls : List Line} → Tested rs ls
+ready : (rows : ℕ) (w : World) {rs : List Refusal} {ls : List Entry} → Tested rs ls
     → Tested ((1 when not (isSized rows (w .chars) (w .attrs))) ∷ (2 when not (isGood rows (w .state))) ∷ rs) ((1 for WrongSize rows (w .chars) (w .attrs)) ∷ (2 for NotGood rows w) ∷ ls)
 ready rows w rest =
     tested (λ e. wrong-size rows (w .chars) (w .attrs) (not-true _ e)) (λ c. unless-true (λ e. right-size rows (w .chars) (w .attrs) e c))
@@ -123,7 +123,7 @@ to-barred true n o = refl
 to-barred false n (inl p) = absurd (not-both p refl)
 to-barred false n (inr p) = ap not (ne-eqb n 0 p)
 
-bar : (w : World) {rs : List Refusal} {ls : List Line} → Tested rs ls → Tested ((4 when barred (w .state)) ∷ rs) ((4 for Barred w) ∷ ls)
+bar : (w : World) {rs : List Refusal} {ls : List Entry} → Tested rs ls → Tested ((4 when barred (w .state)) ∷ rs) ((4 for Barred w) ∷ ls)
 unfolding barred
 bar w = tested (is-barred (w .state .lock) (w .state .pending)) (to-barred (w .state .lock) (w .state .pending))
 

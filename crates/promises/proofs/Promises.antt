@@ -11,6 +11,8 @@ use Rattle.promises.proofs.Once.{fresh-is-once, key-is-once, post-is-on
 use Rattle.promises.proofs.Numbers.{fresh-numbers, key-numbers, post-numbers, host-numbers}
 use Rattle.promises.proofs.Accepted.{post-writes}
 use Rattle.promises.proofs.Protected.{protected-stay}
+use Rattle.promises.proofs.Records.{part-numbers, record-numbers, record-refusals, host-records}
+use Rattle.promises.proofs.Sessions.{part-is-once, record-is-once, lines-is-once, end-is-once, session-lines, session-numbered, session-good, session-in-parts}
 use Rattle.promises.proofs.Mixing.{mixes-agree}
 use Rattle.promises.proofs.Witness.{form-covered, locked-covered, pending-covered, bare-covered, reach-needed, enter-bars, posts-keep-order, order-shows}
 
@@ -47,6 +49,18 @@ kept-on rows some few c =
       post-writes = post-writes rows few;
       protected-stay = protected-stay rows few;
       cases-hold = c .cases-hold;
+      part-numbers = part-numbers rows;
+      record-numbers = record-numbers rows some few;
+      record-refusals = record-refusals rows some few;
+      host-records = host-records rows some few;
+      part-once = part-is-once rows;
+      record-once = record-is-once rows;
+      lines-once = lines-is-once rows;
+      end-once = end-is-once;
+      session-lines = session-lines rows some few;
+      session-numbered = session-numbered rows;
+      session-good = session-good rows some few;
+      session-in-parts = session-in-parts rows;
       mixes-agree = mixes-agree rows;
       mixed-exactly = mixed-exactly;
       form-covered = c .form-covered;

@@ -29,14 +29,14 @@ use Rattle.records.proofs.Running.{other-form, host-record, key-record, post-re
 use Rattle.records.proofs.Whole.{turn, last}
 use Rattle.records.proofs.Answered.{whole-once}
 use Rattle.mixing.specs.Event.{run}
-use Rattle.promises.specs.Numbers.{Line, _for_, WrongSize, NotGood, sent, keyTable, postTable, hostTable}
+use Rattle.promises.specs.Numbers.{Entry, _for_, WrongSize, NotGood, sent, keyTable, postTable, hostTable}
 use Rattle.promises.specs.Sessions.{partTable, PartNumbers, recordTable, RecordNumbers, HostRecords, RecordRefusals}
 use Rattle.promises.proofs.Tables.{Chosen, none, here, later, applies, passes, numbers, differ, given}
 use Rattle.promises.proofs.Numbers.{key-chosen, post-chosen, host-chosen, key-numbers, post-numbers}
 use Rattle.promises.proofs.Forms.{formed-well, form-chosen}
 
 -- ---- one call
-by-kind : {k : ℕ} {ls ms ns : List Line} (a b : Bool) → (a ≡ true → Chosen ls k) → (a ≡ false → b ≡ true → Chosen ms k) → (a ≡ false → b ≡ false → Chosen ns k)
+by-kind : {k : ℕ} {ls ms ns : List Entry} (a b : Bool) → (a ≡ true → Chosen ls k) → (a ≡ false → b ≡ true → Chosen ms k) → (a ≡ false → b ≡ false → Chosen ns k)
     → Chosen (cond a ls (cond b ms ns)) k
 by-kind true b p q r = p refl
 by-kind false true p q r = q refl refl

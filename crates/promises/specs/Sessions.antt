@@ -19,7 +19,7 @@ use Rattle.sessions.specs.Parts.{linesLeft, recordsRun, ended, endWritten}
 use Rattle.sessions.specs.Loop.{Ends, Resumed}
 use Rattle.mixing.specs.Event.{run}
 use Rattle.promises.specs.Refusals.{GoodShown}
-use Rattle.promises.specs.Numbers.{Line as TableLine, _for_, Given, WrongSize, NotGood, sent, keyTable, postTable, hostTable}
+use Rattle.promises.specs.Numbers.{Entry, _for_, Given, WrongSize, NotGood, sent, keyTable, postTable, hostTable}
 
 -- ---- the form of a record
 
@@ -39,7 +39,7 @@ abbrev pub OtherForm : List ℕ → Type 0
 OtherForm r = ¬ WellFormed r
 
 -- ---- the numbers of `run_from` and of `run`, in the order of their tests: 12, 11, then those of the call that the record asks for
-abbrev pub partTable : ℕ → World → List ℕ → ℕ → List ℕ → List TableLine
+abbrev pub partTable : ℕ → World → List ℕ → ℕ → List ℕ → List Entry
 partTable rows w r at reply =
     (12 for ShortRecord r)
     ∷ (11 for OtherForm r)
@@ -50,7 +50,7 @@ abbrev pub PartNumbers : ℕ → Type 0
 PartNumbers rows = (w : World) (r : List ℕ) (at : ℕ) (reply : List ℕ) (n : ℕ) → (recordPart rows w r at reply .number ≡ n) ↔ Given (partTable rows w r at reply) n
 
 -- an H record answers 1 or 2 or is done, never 7
-abbrev pub recordTable : ℕ → World → List ℕ → List TableLine
+abbrev pub recordTable : ℕ → World → List ℕ → List Entry
 recordTable rows w r =
     (12 for ShortRecord r)
     ∷ (11 for OtherForm r)

@@ -10,7 +10,7 @@ use Rattle.cells.specs.Memory.{written}
 use Rattle.terminal.specs.State.{World}
 use Rattle.records.specs.Records.{Ran, recordRan}
 use Rattle.sessions.specs.Session.{splitIn, split, next, three}
-use Rattle.sessions.specs.Parts.{Listed, listed, listedOn, recordsRun}
+use Rattle.sessions.specs.Parts.{Batch, batch, batchOn, recordsRun}
 
 -- ---- splitting
 split-in : (k j : ℕ) (xs : List ℕ) → length xs ≤ k → length xs ≤ j → splitIn k xs ≡ splitIn j xs
@@ -53,27 +53,27 @@ drop-least (suc n) (x ∷ xs) =
     ap (λ (k : ℕ). drop k (x ∷ xs)) e ∙ drop-least n xs
 
 -- ---- the loop
-pub listing-start : (rows : ℕ) (w : World) (number : ℕ) (bytes lines : List ℕ) → listedOn rows (split bytes) 0 0 number w lines ≡ recordsRun rows w number bytes lines
+pub listing-start : (rows : ℕ) (w : World) (number : ℕ) (bytes lines : List ℕ) → batchOn rows (split bytes) 0 0 number w lines ≡ recordsRun rows w number bytes lines
 unfolding recordsRun
 listing-start rows w number bytes lines = refl
 
 module _ (rows : ℕ) (w : World) (rest : List ℕ) (taken to number : ℕ) (lines : List ℕ) where
   -- what is left after the record x with the bytes r
-  abbrev pub onward : List ℕ → Ran → Listed
+  abbrev pub onward : List ℕ → Ran → Batch
   onward r x =
       let line = three number (x .answer) (x .replied) in
-      listedOn rows (split (drop 84 rest)) (taken + length r) (to + length line) (next number) (x .world) (written lines to line)
+      batchOn rows (split (drop 84 rest)) (taken + length r) (to + length line) (next number) (x .world) (written lines to line)
 
-  pub step : 0 < length rest → to + 63 ≤ length lines → onward (take 84 rest) (recordRan rows w (take 84 rest)) ≡ listedOn rows (split rest) taken to number w lines
-  unfolding listedOn
+  pub step : 0 < length rest → to + 63 ≤ length lines → onward (take 84 rest) (recordRan rows w (take 84 rest)) ≡ batchOn rows (split rest) taken to number w lines
+  unfolding batchOn
   step h l = rw (split-more rest h, le-leb (to + 63) (length lines) l)
 
-  pub all-taken : length rest ≡ 0 → listed taken to number w lines ≡ listedOn rows (split rest) taken to number w lines
-  unfolding listedOn
+  pub all-taken : length rest ≡ 0 → batch taken to number w lines ≡ batchOn rows (split rest) taken to number w lines
+  unfolding batchOn
   all-taken e = rw (split-none rest e)
 
-  pub no-more-room : 0 < length rest → length lines < to + 63 → listed taken to number w lines ≡ listedOn rows (split rest) taken to number w lines
-  unfolding listedOn
+  pub no-more-room : 0 < length rest → length lines < to + 63 → batch taken to number w lines ≡ batchOn rows (split rest) taken to number w lines
+  unfolding batchOn
   no-more-room h l = rw (split-more rest h, lt-leb (to + 63) (length lines) l)
 
 -- one record, from byte `at` to byte `end`
@@ -100,9 +100,9 @@ module _ (rows : ℕ) (w : World) (bytes : List ℕ) (at to number : ℕ) (lines
       → {n : ℕ} → n ≡ next number
       → {i : ℕ} → i ≡ to + length (three number (x .answer) (x .replied))
       → {ls : List ℕ} → ls ≡ written lines to (three number (x .answer) (x .replied))
-      → listedOn rows (split (drop end bytes)) end i n (x .world) ls ≡ listedOn rows (split (drop at bytes)) at to number w lines
+      → batchOn rows (split (drop end bytes)) end i n (x .world) ls ≡ batchOn rows (split (drop at bytes)) at to number w lines
   listing-turn h l {x} ex {n} en {i} ei {ls} el =
       let r = take 84 (drop at bytes) in
       let F = onward rows w (drop at bytes) at to number lines r in
-      let p : listedOn rows (split (drop end bytes)) end i n (x .world) ls ≡ F x = rw (rest-is, ← taken-is, en, ei, el) in
+      let p : batchOn rows (split (drop end bytes)) end i n (x .world) ls ≡ F x = rw (rest-is, ← taken-is, en, ei, el) in
       p ∙ ap F (ex ∙ ap (recordRan rows w) record-is) ∙ step rows w (drop at bytes) at to number lines (omega (arith, rest-length)) l

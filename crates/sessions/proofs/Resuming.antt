@@ -14,7 +14,7 @@ use Rattle.cells.proofs.Splice.{take-written}
 use Rattle.terminal.specs.State.{World}
 use Rattle.records.specs.Records.{recordRan}
 use Rattle.sessions.specs.Session.{split, next, went, three, linesText, endText, printed}
-use Rattle.sessions.specs.Parts.{Listed, listed, listedOn, recordsRun}
+use Rattle.sessions.specs.Parts.{Batch, batch, batchOn, recordsRun}
 use Rattle.sessions.specs.Loop.{Ends, Resumed}
 use Rattle.sessions.proofs.Listing.{split-more, drop-least, onward, step, all-taken, no-more-room}
 
@@ -51,7 +51,7 @@ module _ (part more : List ℕ) (some : 0 < length part) where
   ends-after (inr e) = inr e
 
 -- ---- the records from the place `at` of the lines on: what is taken of the part is told beside what was taken before
-pub record On (rows number : ℕ) (w : World) (part more : List ℕ) (taken at : ℕ) (lines : List ℕ) (l : Listed) : Type 0 where
+pub record On (rows number : ℕ) (w : World) (part more : List ℕ) (taken at : ℕ) (lines : List ℕ) (l : Batch) : Type 0 where
   pub gone : ℕ
   pub taken-is : l .taken ≡ taken + gone
   pub gone-in : gone ≤ length part
@@ -61,7 +61,7 @@ pub record On (rows number : ℕ) (w : World) (part more : List ℕ) (taken at :
   pub prints : take (l .written) (l .lines) ++ printed rows (l .number) (l .world) (split (drop gone part ++ more)) ≡ take at lines ++ printed rows number w (split (part ++ more))
 
 stops : (rows number : ℕ) (w : World) (part more : List ℕ) (taken at : ℕ) (lines : List ℕ) → Ends part more → at ≤ length lines → (0 < length part → at + 63 ≤ length lines → ⊥)
-    → On rows number w part more taken at lines (listed taken at number w lines)
+    → On rows number w part more taken at lines (batch taken at number w lines)
 stops rows number w part more taken at lines o l n =
     record {
       gone = 0;
@@ -86,7 +86,7 @@ module _ (rows number : ℕ) (w : World) (part more : List ℕ) (taken at : ℕ)
   abbrev line : List ℕ
   line = let x = recordRan rows w first in three number (x .answer) (x .replied)
 
-  abbrev rest : Listed
+  abbrev rest : Batch
   rest = onward rows w part taken at number lines first (recordRan rows w first)
 
   on-more : On rows (next number) (recordRan rows w first .world) (drop 84 part) more (taken + length first) (at + length line) (written lines at line) rest → On rows number w part more taken at lines rest
@@ -111,12 +111,12 @@ module _ (rows number : ℕ) (w : World) (part more : List ℕ) (taken at : ℕ)
       }
 
 on-none : (rows number : ℕ) (w : World) (more : List ℕ) (taken at : ℕ) (lines : List ℕ) → Ends [] more → at ≤ length lines
-    → On rows number w [] more taken at lines (listedOn rows (split []) taken at number w lines)
+    → On rows number w [] more taken at lines (batchOn rows (split []) taken at number w lines)
 on-none rows number w more taken at lines o l =
     subst (On rows number w [] more taken at lines) (all-taken rows w [] taken at number lines refl) (stops rows number w [] more taken at lines o l (λ s. absurd (omega arith)))
 
 on : (steps : ℕ) (rows number : ℕ) (w : World) (part more : List ℕ) (taken at : ℕ) (lines : List ℕ) → length part ≤ steps → Ends part more → at ≤ length lines
-    → On rows number w part more taken at lines (listedOn rows (split part) taken at number w lines)
+    → On rows number w part more taken at lines (batchOn rows (split part) taken at number w lines)
 on zero rows number w [] more taken at lines h o l = on-none rows number w more taken at lines o l
 on zero rows number w (b ∷ bytes) more taken at lines h o l = absurd (omega arith)
 on (suc steps) rows number w [] more taken at lines h o l = on-none rows number w more taken at lines o l
@@ -132,8 +132,8 @@ on (suc steps) rows number w (b ∷ bytes) more taken at lines h o l =
   where
     by : (t : Bool) → leb (at + 63) (length lines) ≡ t → let part = b ∷ bytes in let r = take 84 part in let x = recordRan rows w r in let line = three number (x .answer) (x .replied) in
         On rows (next number) (x .world) (drop 84 part) more (taken + length r) (at + length line) (written lines at line)
-        (listedOn rows (split (drop 84 part)) (taken + length r) (at + length line) (next number) (x .world) (written lines at line))
-        → On rows number w (b ∷ bytes) more taken at lines (listedOn rows (split (b ∷ bytes)) taken at number w lines)
+        (batchOn rows (split (drop 84 part)) (taken + length r) (at + length line) (next number) (x .world) (written lines at line))
+        → On rows number w (b ∷ bytes) more taken at lines (batchOn rows (split (b ∷ bytes)) taken at number w lines)
     by true t i =
         subst (On rows number w (b ∷ bytes) more taken at lines) (step rows w (b ∷ bytes) taken at number lines (omega arith) (leb-true (at + 63) (length lines) t))
         (on-more rows number w (b ∷ bytes) more taken at lines (omega arith) o l i)
@@ -146,7 +146,7 @@ pub resumed : (rows number : ℕ) (w : World) (part more room : List ℕ) → En
 unfolding recordsRun
 resumed rows number w part more room o =
     let i = on (length part) rows number w part more 0 0 room (omega arith) o (omega arith) in
-    let e : i .gone ≡ listedOn rows (split part) 0 0 number w room .taken = omega (arith, i .taken-is) in
+    let e : i .gone ≡ batchOn rows (split part) 0 0 number w room .taken = omega (arith, i .taken-is) in
     record {
       taken-in = omega (arith, i .gone-in, i .taken-is);
       ends = rw e at (i .ends);

@@ -6,14 +6,14 @@ use mathlib.Core.List.{List, [], _++_}
 use lib.ListN.{length, take, drop}
 use Rattle.terminal.specs.State.{World}
 use Rattle.sessions.specs.Session.{split, printed}
-use Rattle.sessions.specs.Parts.{Listed}
+use Rattle.sessions.specs.Parts.{Batch}
 
 -- a part of a session ends between two records, or the session ends with it
 abbrev pub Ends : List ℕ → List ℕ → Type 0
 Ends part more = ((k : ℕ) × (length part ≡ k * 84)) ⊎ (more ≡ [])
 
 -- `part` was run from a number and a terminal on, with some room for lines, and left l; `more` comes after it
-pub record Resumed (rows number : ℕ) (w : World) (part more room : List ℕ) (l : Listed) : Type 0 where
+pub record Resumed (rows number : ℕ) (w : World) (part more room : List ℕ) (l : Batch) : Type 0 where
   -- what is left of the part is a part again, and there is less of it where a line fits
   pub taken-in : l .taken ≤ length part
   pub ends : Ends (drop (l .taken) part) more

@@ -12,30 +12,30 @@ use Rattle.sessions.specs.Session.{split, next, three, endText}
 use Rattle.sessions.specs.declared.LinesAnswer.{LinesAnswer}
 
 -- what running records leaves: the bytes taken, the bytes written to the lines, the number of the next record, the terminal, and the buffer for the lines
-pub record Listed : Type 0 where
+pub record Batch : Type 0 where
   pub taken : ℕ
   pub written : ℕ
   pub number : ℕ
   pub world : World
   pub lines : List ℕ
 
-abbrev pub listed : ℕ → ℕ → ℕ → World → List ℕ → Listed
-listed taken written number w lines = record { taken = taken; written = written; number = number; world = w; lines = lines }
+abbrev pub batch : ℕ → ℕ → ℕ → World → List ℕ → Batch
+batch taken written number w lines = record { taken = taken; written = written; number = number; world = w; lines = lines }
 
-abbrev pub linesLeft : LinesAnswer → List ℕ → List ℕ → List ℕ → Listed
-linesLeft r chars attrs lines = listed (r .taken) (r .written) (r .number) (world (r .state) chars attrs) lines
+abbrev pub linesLeft : LinesAnswer → List ℕ → List ℕ → List ℕ → Batch
+linesLeft r chars attrs lines = batch (r .taken) (r .written) (r .number) (world (r .state) chars attrs) lines
 
 -- record by record, `taken` bytes and `at` bytes of lines so far; it stops before a record whose line, at most three numbers of twenty digits, might not fit
-unfoldable pub listedOn : ℕ → List (List ℕ) → ℕ → ℕ → ℕ → World → List ℕ → Listed
-listedOn rows [] taken at number w lines = listed taken at number w lines
-listedOn rows (r ∷ rs) taken at number w lines =
+unfoldable pub batchOn : ℕ → List (List ℕ) → ℕ → ℕ → ℕ → World → List ℕ → Batch
+batchOn rows [] taken at number w lines = batch taken at number w lines
+batchOn rows (r ∷ rs) taken at number w lines =
     let x = recordRan rows w r in
     let line = three number (x .answer) (x .replied) in
-    cond (leb (at + 63) (length lines)) (listedOn rows rs (taken + length r) (at + length line) (next number) (x .world) (written lines at line))
-    (listed taken at number w lines)
+    cond (leb (at + 63) (length lines)) (batchOn rows rs (taken + length r) (at + length line) (next number) (x .world) (written lines at line))
+    (batch taken at number w lines)
 
-unfoldable pub recordsRun : ℕ → World → ℕ → List ℕ → List ℕ → Listed
-recordsRun rows w number bytes lines = listedOn rows (split bytes) 0 0 number w lines
+unfoldable pub recordsRun : ℕ → World → ℕ → List ℕ → List ℕ → Batch
+recordsRun rows w number bytes lines = batchOn rows (split bytes) 0 0 number w lines
 
 -- what writing the end line leaves: the bytes written, and the buffer. Nothing is written to under 67 bytes
 pub record Ended : Type 0 where

@@ -6,7 +6,7 @@ use lib.ListN.{length, drop, length-drop}
 use borrow.Author.Needs.{needs}
 use Rattle.terminal.specs.State.{world}
 use Rattle.sessions.specs.Session.{split}
-use Rattle.sessions.specs.Parts.{listedOn, recordsRun}
+use Rattle.sessions.specs.Parts.{batchOn, recordsRun}
 use Rattle.sessions.proofs.Listing.{listing-start, listing-turn, all-taken, no-more-room}
 use Rattle.sessions.proofs.run_records.Statement.{statement}
 use Rattle.sessions.proofs.run_records.Tie as tie
@@ -14,7 +14,7 @@ use Rattle.sessions.proofs.run_records.Tie as tie
 abbrev Inv-loop : tie.InvT-loop
 Inv-loop chars₀ attrs₀ number bytes lines₀ u₀ n₀ at₀ to₀ chars attrs lines u n at to =
     (at ≤ length bytes) × (to ≤ length lines) × (n ≤ 18446744073709551615) × (length chars ≡ length chars₀) × (length attrs ≡ length attrs₀) × (length lines ≡ length lines₀)
-    × (listedOn 48 (split (drop at bytes)) at to n (world u chars attrs) lines ≡ recordsRun 48 (world u₀ chars₀ attrs₀) number bytes lines₀)
+    × (batchOn 48 (split (drop at bytes)) at to n (world u chars attrs) lines ≡ recordsRun 48 (world u₀ chars₀ attrs₀) number bytes lines₀)
 
 abbrev μ-loop : tie.MeasureT-loop
 μ-loop chars₀ attrs₀ number bytes lines₀ u₀ n₀ at₀ to₀ chars attrs lines u n at to = length bytes - at
