@@ -38,19 +38,19 @@ pub record Promises (rows : ℕ) : Type 1 where
   pub protected-stay : ProtectedStay rows
   -- document 01's own cases
   pub cases-hold : CasesHold rows
-  -- session records and sessions of any bytes: numbers, one result, refusals that change nothing, H records that are done, lines, good states, parts
+  -- session records and sessions of any bytes
   pub part-numbers : PartNumbers rows
   pub record-numbers : RecordNumbers rows
   pub record-refusals : RecordRefusals rows
   pub host-records : HostRecords rows
-  pub part-once : PartOnce rows
-  pub record-once : RecordOnce rows
-  pub lines-once : LinesOnce rows
-  pub end-once : EndOnce
   pub session-lines : SessionLines rows
   pub session-numbered : SessionNumbered rows
   pub session-good : SessionGood rows
   pub session-in-parts : SessionInParts rows
+  pub part-once : PartOnce rows
+  pub record-once : RecordOnce rows
+  pub lines-once : LinesOnce rows
+  pub end-once : EndOnce
   -- ---- 3. two tags cannot get in each other's way
   -- every mix ends alike and gives the same answers, and no mix is left out
   pub mixes-agree : MixesAgree rows
