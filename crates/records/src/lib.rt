@@ -1,6 +1,6 @@
 // Session records: a record of 84 bytes is read and run on a terminal.
 ghost use mathlib.Core.Path.{_≡_};
-ghost use Prim.Native.Nat.{_+_, _*_, _≤_, _<_, min};
+ghost use Prim.Native.Nat.{_+_, _*_, _≤_, _<_};
 ghost use lib.ListN.{length, drop};
 ghost use Rattle.terminal.specs.State.{world};
 ghost use Rattle.records.specs.Records.{numberOf, zeros, kindFits, formRefusal, partLeft, hostPart, keyPart, postPart, recordPart, ranLeft, recordRan};
@@ -77,12 +77,6 @@ pub fn refuse_form(bytes: &[u8]) -> u8
     if is_zero(bytes, 4 + size) { 0 } else { 11 }
 }
 
-fn least(a: usize, b: usize) -> usize
-    ensures { λ r. ⌜ r ≡ min a b ⌝ }
-{
-    if a < b { a } else { b }
-}
-
 // Host bytes from byte `at` on, as far as the reply buffer goes.
 fn run_host(
     t: Terminal,
@@ -94,7 +88,7 @@ fn run_host(
 ) -> PartAnswer
     ensures { λ r. ⌜ partLeft r (now (chars .exit)) (now (attrs .exit)) (now (reply .exit)) ≡ hostPart 48 (world t (now (chars .entry)) (now (attrs .entry))) (now (bytes .entry)) at (now (reply .entry)) ⌝ }
 {
-    let from = least(at, bytes.len());
+    let from = cells::least(at, bytes.len());
     let a = host::host(t, chars, attrs, &bytes[from..], reply);
     let state = a.state;
     PartAnswer {

@@ -1,7 +1,7 @@
 // Sessions: records of 84 bytes, run one after the other, and the lines that they print.
 ghost use mathlib.Core.Path.{_≡_};
 ghost use mathlib.Core.List.{[], _∷_, _++_};
-ghost use Prim.Native.Nat.{_+_, _≤_, min};
+ghost use Prim.Native.Nat.{_+_, _≤_};
 ghost use lib.ListN.{length};
 ghost use Rattle.cells.specs.Memory.{written};
 ghost use Rattle.terminal.specs.State.{world};
@@ -56,12 +56,6 @@ fn next(number: u64) -> u64
     }
 }
 
-fn least(a: usize, b: usize) -> usize
-    ensures { λ r. ⌜ r ≡ min a b ⌝ }
-{
-    if a < b { a } else { b }
-}
-
 // The records of `bytes`, the first of them with this number, run one after the other; each one's line (record number, answer, reply bytes) goes to the start
 // of `lines`, behind the one before it. A rest under 84 bytes is a record too, the short one: hand in parts of a session that end between records. It stops
 // where all is taken, or where fewer than 63 bytes are left for a line: then empty `lines`, and call again with `&bytes[taken..]` and the number and the state
@@ -89,7 +83,7 @@ pub fn run_records(
                 state: u,
             };
         }
-        let end = at + least(84, bytes.len() - at);
+        let end = at + cells::least(84, bytes.len() - at);
         let a = records::run(u, chars, attrs, &bytes[at..end]);
         to = write_three(lines, to, n, a.answer as u64, a.replied as u64);
         let state = a.state;
