@@ -1,11 +1,10 @@
 #!/usr/bin/env python3
 """Prints what the programs `session` and `show` print, computed by the reference model.
 
-    expected.py session       < FILE.session
-    expected.py show          < FILE.session
-    expected.py show raw      < FILE.session
-    expected.py show host     < FILE      (the whole input is one host stream)
-    expected.py show host raw < FILE
+    expected.py session           [FILE..]
+    expected.py show [host] [raw] [FILE..]
+
+A FILE holds session records, or with `host` one host stream; without a FILE it is standard input.
 """
 
 import sys
@@ -96,24 +95,44 @@ def short_part_lines(results, size):
         yield "12: the input ends inside record %d, after %d of %d bytes" % (len(results) - 1, size % RECORD, RECORD)
 
 
-def lines(words, data):
-    if words in (["show", "host"], ["show", "host", "raw"]):
+def lines(program, host, raw, data):
+    """What one file gives."""
+    if host:
         terminal = Terminal()
         answer, reply = run_host(terminal, data)
-        return list(raw_lines(terminal, [reply]) if words[-1] == "raw" else picture_lines(terminal))
+        return raw_lines(terminal, [reply]) if raw else picture_lines(terminal)
     terminal, results = run(data)
-    if words == ["session"]:
-        return list(session_lines(terminal, results))
-    if words == ["show", "raw"]:
-        return list(raw_lines(terminal, [reply for answer, reply in results if answer != SHORT_RECORD]))
-    if words == ["show"]:
-        return list(short_part_lines(results, len(data))) + list(picture_lines(terminal))
-    return None
+    if program == "session":
+        return session_lines(terminal, results)
+    if raw:
+        return raw_lines(terminal, [reply for answer, reply in results if answer != SHORT_RECORD])
+    return list(short_part_lines(results, len(data))) + list(picture_lines(terminal))
+
+
+def file_lines(program, host, raw, names):
+    """What the files give, one after the other, each from a fresh terminal; of several each has its name before it."""
+    for name in names:
+        try:
+            with open(name, "rb") as file:
+                data = file.read()
+        except OSError as reason:
+            print("%s: %s" % (name, reason.strerror), file=sys.stderr)
+            continue
+        if len(names) > 1:
+            yield "== " + name
+        yield from lines(program, host, raw, data)
+
+
+def main(program, words):
+    modes = [] if program == "session" else [word for word in words if word in ("host", "raw")]
+    names = words if program == "session" else [word for word in words if word not in ("host", "raw")]
+    host, raw = "host" in modes, "raw" in modes
+    found = file_lines(program, host, raw, names) if names else lines(program, host, raw, sys.stdin.buffer.read())
+    for line in found:
+        print(line)
 
 
 if __name__ == "__main__":
-    found = lines(sys.argv[1:], sys.stdin.buffer.read())
-    if found is None:
+    if sys.argv[1:2] not in (["session"], ["show"]) or any(word.startswith("-") for word in sys.argv[2:]):
         sys.exit(__doc__)
-    for line in found:
-        print(line)
+    main(sys.argv[1], sys.argv[2:])

@@ -1,4 +1,4 @@
-// Runs the session records of standard input on a fresh terminal, and prints the answer to each.
+// Runs session records, each file's on a fresh terminal, and prints the answer to each.
 fn main() {
-    console::session();
+    programs::session();
 }

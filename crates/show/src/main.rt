@@ -1,4 +1,4 @@
-// Shows what the terminal holds after the session records, or the host stream, of standard input.
+// Shows what the terminal holds after session records, or after a host stream.
 fn main() {
-    console::show();
+    programs::show();
 }

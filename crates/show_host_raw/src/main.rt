@@ -1,4 +1,4 @@
-// The program `show` with the arguments `host raw`, run on examples/painted.
+// The program `show` with the words `host` and `raw`, run on one file.
 fn main() {
-    console::show();
+    programs::show();
 }

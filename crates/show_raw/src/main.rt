@@ -1,4 +1,4 @@
-// The program `show` with the arguments `raw`, run on examples/tags-among-keys.
+// The program `show` with the word `raw`, run on files.
 fn main() {
-    console::show();
+    programs::show();
 }

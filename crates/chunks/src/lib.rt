@@ -1,0 +1,196 @@
+// A chunk of a file, run on the terminal and told: session records, or a part of a host stream.
+ghost use mathlib.Core.Path.{_≡_};
+ghost use Prim.Native.Nat.{_+_, min};
+use printing::Output;
+use printing::Page;
+use terminal::Terminal;
+
+// What a file is asked for: the lines of a session, or a terminal to be shown after session records, or after a host stream; as a picture, or raw for scripts.
+pub struct Way {
+    pub is_session: bool,
+    pub is_host: bool,
+    pub is_raw: bool,
+}
+
+// What is printed, the terminal, the number of the next record, and whether the line of replies to a host stream has a byte yet.
+pub struct Progress {
+    pub out: Output,
+    pub state: Terminal,
+    pub number: u64,
+    pub some: bool,
+}
+
+// A session's records and their lines, as many to a call as the room takes.
+pub fn answer(
+    p: Progress,
+    page: &mut Page,
+    chars: &mut [u8; 3840],
+    attrs: &mut [u8; 3840],
+    bytes: &[u8],
+    lines: &mut [u8; 7680],
+) -> Progress {
+    let mut q = p;
+    let mut at = 0;
+    let mut calls = bytes.len();
+    loop {
+        let a = sessions::run_records(q.state, chars, attrs, q.number, &bytes[at..], lines);
+        let out = print_first(q.out, page, lines, a.written);
+        let state = a.state;
+        q = Progress {
+            out: out,
+            state: state,
+            number: a.number,
+            some: false,
+        };
+        at = after(at, a.taken, bytes.len());
+        if at == bytes.len() {
+            return q;
+        }
+        if calls == 0 {
+            return q;
+        }
+        calls -= 1;
+    }
+}
+
+fn print_first(out: Output, page: &mut Page, lines: &[u8], n: usize) -> Output {
+    if n <= lines.len() {
+        return printing::text(out, page, &lines[0..n]);
+    }
+    out
+}
+
+// Host bytes, with an emptied reply buffer for each call until all is taken.
+pub fn feed(
+    p: Progress,
+    page: &mut Page,
+    chars: &mut [u8; 3840],
+    attrs: &mut [u8; 3840],
+    bytes: &[u8],
+    reply: &mut [u8; 7680],
+    is_raw: bool,
+) -> Progress {
+    let mut q = p;
+    let mut at = 0;
+    let mut calls = bytes.len();
+    loop {
+        let a = host::host(q.state, chars, attrs, &bytes[at..], reply);
+        let out = tell(q.out, page, reply, a.written, q.some, is_raw);
+        let state = a.state;
+        q = Progress {
+            out: out,
+            state: state,
+            number: 0,
+            some: is_some(q.some, a.written),
+        };
+        if a.number != 7 {
+            return q;
+        }
+        if calls == 0 {
+            return q;
+        }
+        calls -= 1;
+        at = after(at, a.taken, bytes.len());
+    }
+}
+
+// The records of 84 bytes; a rest is left.
+pub fn show(
+    p: Progress,
+    page: &mut Page,
+    chars: &mut [u8; 3840],
+    attrs: &mut [u8; 3840],
+    bytes: &[u8],
+    reply: &mut [u8; 7680],
+    is_raw: bool,
+) -> Progress {
+    let mut q = p;
+    let mut at = 0;
+    while 84 <= bytes.len() - at {
+        let end = at + 84;
+        q = show_record(q, page, chars, attrs, &bytes[at..end], reply, is_raw);
+        at = end;
+    }
+    q
+}
+
+// One record, with an emptied reply buffer for each call until it is done; raw, its reply bytes are a line.
+fn show_record(
+    p: Progress,
+    page: &mut Page,
+    chars: &mut [u8; 3840],
+    attrs: &mut [u8; 3840],
+    record: &[u8],
+    reply: &mut [u8; 7680],
+    is_raw: bool,
+) -> Progress {
+    let mut out = begin(p.out, page, p.number, is_raw);
+    let mut t = p.state;
+    let mut some = false;
+    let mut at = 0;
+    let mut calls = record.len();
+    loop {
+        let a = records::run_from(t, chars, attrs, record, at, reply);
+        out = tell(out, page, reply, a.written, some, is_raw);
+        some = is_some(some, a.written);
+        t = a.state;
+        at = a.at;
+        if a.number != 7 {
+            break;
+        }
+        if calls == 0 {
+            break;
+        }
+        calls -= 1;
+    }
+    Progress {
+        out: printing::either(out, page, is_raw, b"\n", b""),
+        state: t,
+        number: next(p.number),
+        some: false,
+    }
+}
+
+// The start of a line of replies.
+pub fn begin(out: Output, page: &mut Page, number: u64, is_raw: bool) -> Output {
+    if is_raw {
+        return listing::print_reply(out, page, number);
+    }
+    out
+}
+
+// Raw, the first `n` bytes of a reply; `some` of its line were there before them.
+fn tell(out: Output, page: &mut Page, reply: &[u8], n: usize, some: bool, is_raw: bool) -> Output {
+    if is_raw {
+        return listing::print_part(out, page, reply, n, !some);
+    }
+    out
+}
+
+fn is_some(some: bool, n: usize) -> bool {
+    if 0 < n {
+        return true;
+    }
+    some
+}
+
+// The number of the next record, as `sessions` counts.
+fn next(number: u64) -> u64 {
+    if number < 18446744073709551615 {
+        number + 1
+    } else {
+        number
+    }
+}
+
+// The place `n` bytes on, at most `end`.
+fn after(at: usize, n: usize, end: usize) -> usize
+    ensures { λ r. ⌜ r ≡ min (at + n) end ⌝ }
+{
+    if at <= end {
+        if n < end - at {
+            return at + n;
+        }
+    }
+    end
+}

@@ -1,0 +1,153 @@
+// One file, read to its end in chunks and run on a fresh terminal.
+ghost use Prim.Native.Nat.{_≤_};
+ghost use lib.ListN.{length};
+use chunks::Progress;
+use chunks::Way;
+use printing::Output;
+use printing::Page;
+use terminal::Terminal;
+
+// Reads the file and prints what is asked for; `name` is what a failure calls it.
+pub fn run(out: Output, page: &mut Page, way: Way, fd: i32, name: &[u8]) -> Output {
+    let mut chars = [32u8; 3840];
+    let mut attrs = [0u8; 3840];
+    let mut room = [0u8; 7680];
+    let r = read(out, page, &mut chars, &mut attrs, &mut room, way, fd);
+    let p = r.progress;
+    if r.is_well {
+        return endings::finish(p, page, &chars, &attrs, &mut room, way, r.rest, name);
+    }
+    endings::break_off(p.out, page, way, name)
+}
+
+// A chunk that was read and run: how far the file came, the bytes behind the last record, whether the file is over, and whether no read failed.
+struct Chunk {
+    progress: Progress,
+    rest: usize,
+    is_over: bool,
+    is_well: bool,
+}
+
+// Chunk by chunk to the end.
+fn read(
+    out: Output,
+    page: &mut Page,
+    chars: &mut [u8; 3840],
+    attrs: &mut [u8; 3840],
+    room: &mut [u8; 7680],
+    way: Way,
+    fd: i32,
+) -> Chunk {
+    let mut p = start(out, page, way);
+    let mut bytes = [0u8; 8064];
+    let mut turns = u64::MAX;
+    loop {
+        let r = read_chunk(p, page, chars, attrs, &mut bytes, room, way, fd);
+        if r.is_over {
+            return r;
+        }
+        if turns == 0 {
+            return r;
+        }
+        let q = r.progress;
+        p = q;
+        turns -= 1;
+    }
+}
+
+// A fresh terminal; the replies to a host stream are one line.
+fn start(out: Output, page: &mut Page, way: Way) -> Progress {
+    let out = chunks::begin(out, page, 0, way.is_host && way.is_raw);
+    Progress {
+        out: out,
+        state: Terminal::fresh_state(),
+        number: 0,
+        some: false,
+    }
+}
+
+// A chunk has 96 records; only the last may be shorter. Where a read fails, or a write, the file is over.
+fn read_chunk(
+    p: Progress,
+    page: &mut Page,
+    chars: &mut [u8; 3840],
+    attrs: &mut [u8; 3840],
+    bytes: &mut [u8],
+    room: &mut [u8; 7680],
+    way: Way,
+    fd: i32,
+) -> Chunk {
+    let got = fill(fd, bytes);
+    let n = whole(got);
+    let q = run_chunk(p, page, chars, attrs, &bytes[0..n], room, way);
+    Chunk {
+        progress: q,
+        rest: got.size % 84,
+        is_over: is_over(got, q.out),
+        is_well: got.is_well,
+    }
+}
+
+// `room` takes replies, or the lines of a session.
+fn run_chunk(
+    p: Progress,
+    page: &mut Page,
+    chars: &mut [u8; 3840],
+    attrs: &mut [u8; 3840],
+    bytes: &[u8],
+    room: &mut [u8; 7680],
+    way: Way,
+) -> Progress {
+    if way.is_session {
+        return chunks::answer(p, page, chars, attrs, bytes, room);
+    }
+    if way.is_host {
+        return chunks::feed(p, page, chars, attrs, bytes, room, way.is_raw);
+    }
+    chunks::show(p, page, chars, attrs, bytes, room, way.is_raw)
+}
+
+fn is_over(got: Filled, out: Output) -> bool {
+    if got.size < 8064 {
+        return true;
+    }
+    !out.is_well
+}
+
+// What is run of a chunk: where a read failed, its last record is no short one.
+fn whole(got: Filled) -> usize
+    ensures { λ r. ⌜ r ≤ got .size ⌝ }
+{
+    if got.is_well {
+        return got.size;
+    }
+    got.size / 84 * 84
+}
+
+// How many bytes were read, and whether no read failed.
+struct Filled {
+    size: usize,
+    is_well: bool,
+}
+
+// Reads until the array is full, the file ends or a read fails; errno then says why.
+fn fill(fd: i32, bytes: &mut [u8]) -> Filled
+    ensures { λ r. ⌜ r .size ≤ length (now (bytes .exit)) ⌝ }
+{
+    let mut size = 0;
+    while size < bytes.len() {
+        let got = libc::read(fd, &mut bytes[size..]);
+        let more = io::count(got, &bytes[size..]);
+        if more == 0 {
+            return Filled {
+                size: size,
+                is_well: got == 0,
+            };
+        }
+        size += more;
+    }
+    Filled {
+        size: size,
+        is_well: true,
+    }
+}

@@ -1,0 +1,69 @@
+// What the words behind a program's name ask for.
+use chunks::Way;
+
+// `files` is 0, 1, or 2 for several; `is_bad` is for a word that begins with `-`.
+pub struct Asked {
+    pub way: Way,
+    pub files: u8,
+    pub is_bad: bool,
+}
+
+pub fn find(is_session: bool) -> Asked {
+    let mut is_host = false;
+    let mut is_raw = false;
+    let mut is_bad = false;
+    let mut files = 0;
+    let n = os::arg_count();
+    let mut i = 1;
+    while i < n {
+        match word_at(is_session, i) {
+            1 => is_raw = true,
+            2 => is_host = true,
+            3 => is_bad = true,
+            _ => files = more(files),
+        }
+        i += 1;
+    }
+    let way = Way {
+        is_session: is_session,
+        is_host: is_host,
+        is_raw: is_raw,
+    };
+    Asked {
+        way: way,
+        files: files,
+        is_bad: is_bad,
+    }
+}
+
+fn more(files: u8) -> u8 {
+    if files == 0 { 1 } else { 2 }
+}
+
+// Whether word `i` names a file.
+pub fn is_file(is_session: bool, i: usize) -> bool {
+    word_at(is_session, i) == 0
+}
+
+// 0 for the name of a file, 1 for `raw` and 2 for `host`, which `session` takes for files, 3 for a word that begins with `-`.
+fn word_at(is_session: bool, i: usize) -> u8 {
+    let mut word = [0u8; 8];
+    let n = os::arg(i, &mut word);
+    if word[0] == b'-' {
+        return 3;
+    }
+    if is_session {
+        return 0;
+    }
+    if n == 3 {
+        if word[0] == b'r' && word[1] == b'a' && word[2] == b'w' {
+            return 1;
+        }
+    }
+    if n == 4 {
+        if word[0] == b'h' && word[1] == b'o' && word[2] == b's' && word[3] == b't' {
+            return 2;
+        }
+    }
+    0
+}

@@ -1,4 +1,0 @@
-// The program `session`, run on examples/block-transfer.
-fn main() {
-    console::session();
-}

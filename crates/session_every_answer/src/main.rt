@@ -1,4 +1,0 @@
-// The program `session`, run on examples/every-answer.
-fn main() {
-    console::session();
-}

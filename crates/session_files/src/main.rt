@@ -1,0 +1,4 @@
+// The program `session`, run on files, one of which is not there.
+fn main() {
+    programs::session();
+}

@@ -1,4 +1,0 @@
-// The program `session`, run on examples/shift-form.
-fn main() {
-    console::session();
-}

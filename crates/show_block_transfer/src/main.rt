@@ -1,4 +1,0 @@
-// The program `show`, run on examples/block-transfer.
-fn main() {
-    console::show();
-}

@@ -1,4 +1,0 @@
-// The program `show`, run on examples/every-answer.
-fn main() {
-    console::show();
-}

@@ -1,4 +1,0 @@
-// The program `show`, run on examples/tags-among-keys.
-fn main() {
-    console::show();
-}
