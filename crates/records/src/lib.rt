@@ -37,7 +37,7 @@ fn is_zero(bytes: &[u8], from: usize) -> bool
 }
 
 // The record's number, low byte first.
-pub fn number_of(bytes: &[u8]) -> usize
+fn number_of(bytes: &[u8]) -> usize
     requires { ⌜ 4 ≤ length (now bytes) ⌝ }
     ensures { λ r. ⌜ r ≡ numberOf (now (bytes .entry)) ⌝ }
 {
@@ -58,7 +58,7 @@ fn fits_kind(kind: u8, size: usize, number: usize) -> bool
 }
 
 // 0 for a well-formed record, 11 for another form, 12 for a part under 84 bytes.
-pub fn refuse_form(bytes: &[u8]) -> u8
+fn refuse_form(bytes: &[u8]) -> u8
     ensures { λ r. ⌜ r ≡ formRefusal (now (bytes .entry)) ⌝ }
 {
     if bytes.len() < 84 {
