@@ -5,6 +5,7 @@ use Rattle.cases.specs.Cases.{CasesHold}
 use Rattle.cases.proofs.Computed.{cases-hold}
 use Rattle.mixing.proofs.Mixes.{mixed-exactly}
 use Rattle.promises.specs.Form.{FormCovered, LockedCovered, PendingCovered, BareCovered, ReachNeeded, EnterBars, PostsKeepOrder, OrderShows}
+use Rattle.promises.specs.Example.{SessionExample}
 use Rattle.promises.specs.Promises.{Promises}
 use Rattle.promises.proofs.Refusals.{fresh-refusals, key-refusals, post-refusals, host-refusals, fresh-good, good-stays}
 use Rattle.promises.proofs.Once.{fresh-is-once, key-is-once, post-is-once, host-is-once}
@@ -13,12 +14,14 @@ use Rattle.promises.proofs.Accepted.{post-writes}
 use Rattle.promises.proofs.Protected.{protected-stay}
 use Rattle.promises.proofs.Records.{part-numbers, record-numbers, record-refusals, host-records}
 use Rattle.promises.proofs.Sessions.{part-is-once, record-is-once, lines-is-once, end-is-once, session-lines, session-numbered, session-good, session-in-parts}
+use Rattle.promises.proofs.Example.{session-example}
 use Rattle.promises.proofs.Mixing.{mixes-agree}
 use Rattle.promises.proofs.Witness.{form-covered, locked-covered, pending-covered, bare-covered, reach-needed, enter-bars, posts-keep-order, order-shows}
 
 -- the promises that are computed, on a memory of `rows` rows
 pub record Computed (rows : ℕ) : Type 0 where
   pub cases-hold : CasesHold rows
+  pub session-example : SessionExample rows
   pub form-covered : FormCovered rows
   pub locked-covered : LockedCovered rows
   pub pending-covered : PendingCovered rows
@@ -57,6 +60,7 @@ kept-on rows some few c =
       session-numbered = session-numbered rows;
       session-good = session-good rows some few;
       session-in-parts = session-in-parts rows;
+      session-example = c .session-example;
       part-once = part-is-once rows;
       record-once = record-is-once rows;
       lines-once = lines-is-once rows;
@@ -78,6 +82,7 @@ kept =
     kept-on 48 (omega arith) (omega arith)
     (record {
       cases-hold = cases-hold;
+      session-example = session-example;
       form-covered = form-covered;
       locked-covered = locked-covered;
       pending-covered = pending-covered;

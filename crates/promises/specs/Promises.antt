@@ -8,6 +8,7 @@ use Rattle.promises.specs.Numbers.{FreshNumbers, KeyNumbers, PostNumbers
 use Rattle.promises.specs.Accepted.{PostWrites}
 use Rattle.promises.specs.Protected.{ProtectedStay}
 use Rattle.promises.specs.Sessions.{PartNumbers, RecordNumbers, RecordRefusals, HostRecords, PartOnce, RecordOnce, LinesOnce, EndOnce, SessionLines, SessionNumbered, SessionGood, SessionInParts}
+use Rattle.promises.specs.Example.{SessionExample}
 use Rattle.promises.specs.Mixing.{MixesAgree}
 use Rattle.promises.specs.Form.{FormCovered, LockedCovered, PendingCovered, BareCovered, ReachNeeded, EnterBars, PostsKeepOrder, OrderShows}
 
@@ -47,6 +48,8 @@ pub record Promises (rows : ℕ) : Type 1 where
   pub session-numbered : SessionNumbered rows
   pub session-good : SessionGood rows
   pub session-in-parts : SessionInParts rows
+  -- document 01's own session
+  pub session-example : SessionExample rows
   pub part-once : PartOnce rows
   pub record-once : RecordOnce rows
   pub lines-once : LinesOnce rows
