@@ -59,14 +59,14 @@ unfoldable pub after : ℕ → List ℕ → World
 after rows bytes = fed rows (start rows) bytes (room rows) .world
 
 -- a host call's answer, bytes taken and bytes written, and the bytes written themselves before an untouched rest
-unfoldable pub answers : ℕ → ℕ → ℕ → List ℕ → Hosted → Bool
-answers rows number taken reply h =
+unfoldable pub gives : ℕ → ℕ → ℕ → List ℕ → Hosted → Bool
+gives rows number taken reply h =
     eqb (h .number) number && eqb (h .taken) taken && eqb (h .written) (length reply)
     && same (h .reply) (reply ++ drop (length reply) (room rows))
 
 -- ESC [, ESC & a 4 C, ESC ], ESC W: a field of four cells, then format on
-abbrev pub form : List ℕ
-form = 27 ∷ 91 ∷ 27 ∷ 38 ∷ 97 ∷ 52 ∷ 67 ∷ 27 ∷ 93 ∷ 27 ∷ 87 ∷ []
+abbrev pub fourCells : List ℕ
+fourCells = 27 ∷ 91 ∷ 27 ∷ 38 ∷ 97 ∷ 52 ∷ 67 ∷ 27 ∷ 93 ∷ 27 ∷ 87 ∷ []
 
 -- the same with ESC 7 at cell 0: a digits field
 abbrev pub digitsForm : List ℕ
@@ -84,15 +84,15 @@ lastRow rows = 65 ∷ 27 ∷ 38 ∷ 97 ∷ (48 + (rows - 1) / 10) ∷ (48 + (row
 unfoldable pub cases : ℕ → List Bool
 cases rows =
     -- empty stream: nothing taken, nothing written, nothing changed
-    (let h = fed rows (start rows) [] (room rows) in answers rows 0 0 [] h && sameWorld (h .world) (start rows))
+    (let h = fed rows (start rows) [] (room rows) in gives rows 0 0 [] h && sameWorld (h .world) (start rows))
     -- absolute cursor at row 5, column 12: 1B 26 61 30 31 32 63 30 30 35 52 0D; the memory is unchanged and nothing is pending any more
     ∷ (let h = fed rows (start rows) (27 ∷ 38 ∷ 97 ∷ 53 ∷ 114 ∷ 49 ∷ 50 ∷ 67 ∷ 27 ∷ 97 ∷ 17 ∷ []) (room rows) in
-    answers rows 0 11 (27 ∷ 38 ∷ 97 ∷ 48 ∷ 49 ∷ 50 ∷ 99 ∷ 48 ∷ 48 ∷ 53 ∷ 82 ∷ 13 ∷ []) h
+    gives rows 0 11 (27 ∷ 38 ∷ 97 ∷ 48 ∷ 49 ∷ 50 ∷ 99 ∷ 48 ∷ 48 ∷ 53 ∷ 82 ∷ 13 ∷ []) h
     && standsAt 5 12 0 (h .world) && eqb (h .world .state .pending) 0 && sameMemory (h .world) (start rows))
     -- ESC & a - 1 C at column 0 stays there
-    ∷ (let h = fed rows (start rows) (27 ∷ 38 ∷ 97 ∷ 45 ∷ 49 ∷ 67 ∷ []) (room rows) in answers rows 0 6 [] h && sameWorld (h .world) (start rows))
+    ∷ (let h = fed rows (start rows) (27 ∷ 38 ∷ 97 ∷ 45 ∷ 49 ∷ 67 ∷ []) (room rows) in gives rows 0 6 [] h && sameWorld (h .world) (start rows))
     -- ESC & a 200 C gives 79
-    ∷ (let h = fed rows (start rows) (27 ∷ 38 ∷ 97 ∷ 50 ∷ 48 ∷ 48 ∷ 67 ∷ []) (room rows) in answers rows 0 7 [] h && standsAt 0 79 0 (h .world) && sameMemory (h .world) (start rows))
+    ∷ (let h = fed rows (start rows) (27 ∷ 38 ∷ 97 ∷ 50 ∷ 48 ∷ 48 ∷ 67 ∷ []) (room rows) in gives rows 0 7 [] h && standsAt 0 79 0 (h .world) && sameMemory (h .world) (start rows))
     -- line feed at the last row, format off: all rows with attributes move up, the last becomes blank with attributes 0, the cursor stays
     ∷ (let w = after rows (27 ∷ 91 ∷ lastRow rows) in
     let v = after rows ((27 ∷ 91 ∷ lastRow rows) ++ (10 ∷ [])) in
@@ -101,11 +101,11 @@ cases rows =
     -- line feed at the last row, format on: nothing
     ∷ (let w = after rows (lastRow rows ++ (27 ∷ 87 ∷ [])) in let v = after rows (lastRow rows ++ (27 ∷ 87 ∷ 10 ∷ [])) in standsAt (rows - 1) 1 (rows - 24) v && sameWorld v w)
     -- five letters into four cells: 10, and nothing changes
-    ∷ (let w = after rows form in let p = postedTo rows w 0 (65 ∷ 66 ∷ 67 ∷ 68 ∷ 69 ∷ []) in eqb (p .number) 10 && sameWorld (p .world) w)
+    ∷ (let w = after rows fourCells in let p = postedTo rows w 0 (65 ∷ 66 ∷ 67 ∷ 68 ∷ 69 ∷ []) in eqb (p .number) 10 && sameWorld (p .world) w)
     -- `A1` into a digits field: 6, and nothing changes
     ∷ (let w = after rows digitsForm in let p = postedTo rows w 0 (65 ∷ 49 ∷ []) in eqb (p .number) 6 && sameWorld (p .world) w)
     -- `T17`: the text and a blank in the field's four cells, nothing else changes, and the cursor stays
-    ∷ (let w = after rows form in
+    ∷ (let w = after rows fourCells in
     let p = postedTo rows w 0 (84 ∷ 49 ∷ 55 ∷ []) in
     eqb (p .number) 0 && sameState (p .world .state) (w .state) && standsAt 0 4 0 (p .world)
     && same (p .world .chars) (84 ∷ 49 ∷ 55 ∷ 32 ∷ drop 4 (w .chars)) && same (p .world .attrs) (w .attrs))
@@ -120,7 +120,7 @@ cases rows =
     let x = keyed rows (e .world) (room rows) 88 in
     eqb (e .number) 0 && eqb (e .written) 1 && same (e .reply) (18 ∷ drop 1 (room rows)) && eqb (x .number) 4 && eqb (x .written) 0 && sameWorld (x .world) (e .world))
     -- block with format on and no field: one byte, 30
-    ∷ (let h = fed rows (start rows) (27 ∷ 87 ∷ 27 ∷ 100 ∷ 17 ∷ []) (room rows) in answers rows 0 5 (30 ∷ []) h && sameMemory (h .world) (start rows))
+    ∷ (let h = fed rows (start rows) (27 ∷ 87 ∷ 27 ∷ 100 ∷ 17 ∷ []) (room rows) in gives rows 0 5 (30 ∷ []) h && sameMemory (h .world) (start rows))
     ∷ []
 
 -- the places of the cases that fail

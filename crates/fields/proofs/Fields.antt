@@ -12,39 +12,39 @@ use Rattle.cells.specs.declared.Found.the-variants.{At, Nothing}
 use Rattle.cells.specs.Search.{atOr, firstIn}
 use Rattle.cells.proofs.Finds.{FindsFirst}
 use Rattle.cells.proofs.Search.{not-both, first-cut, first-finds}
-use Rattle.fields.specs.Fields.{isIn, rowEnd, fieldEnd, kindAt, unprotected}
+use Rattle.fields.specs.Fields.{isIn, endOfRow, fieldEnd, kindAt, unprotected}
 use Rattle.fields.proofs.Marks.{in-low, in-more, out-low, marked-inside}
 use Rattle.fields.proofs.Kind.{kind-past, kind-marked, kind-first, kind-later, kind-along}
 
 -- ---- the field's end: past the cell, within its row, no mark between, and a mark at the end unless that is the row's
 pub record Ends (ms : List ℕ) (cell end : ℕ) : Type 0 where
   pub past : cell < end
-  pub within : end ≤ rowEnd cell
+  pub within : end ≤ endOfRow cell
   pub none : (j : ℕ) → cell < j → j < end → isIn 5 (getD ms j 0) ≡ false
-  pub stop : end < rowEnd cell → isIn 5 (getD ms end 0) ≡ true
+  pub stop : end < endOfRow cell → isIn 5 (getD ms end 0) ≡ true
 
 pub field-ends : (ms : List ℕ) (cell : ℕ) → Ends ms cell (fieldEnd ms cell)
 unfolding fieldEnd
-field-ends ms cell = go (decLt (length ms) (rowEnd cell))
+field-ends ms cell = go (decLt (length ms) (endOfRow cell))
   where
     past-end : (j : ℕ) → length ms ≤ j → isIn 5 (getD ms j 0) ≡ false
     past-end j h = rw (List·getD-eq-default ms 0 {n = j} h) (out-low 5)
 
-    whole : (hi : ℕ) → hi ≤ rowEnd cell → ((j : ℕ) → hi ≤ j → j < rowEnd cell → isIn 5 (getD ms j 0) ≡ false) → (f : Found) → FindsFirst (isIn 5) 0 ms (cell + 1) hi f → Ends ms cell (atOr (rowEnd cell) f)
+    whole : (hi : ℕ) → hi ≤ endOfRow cell → ((j : ℕ) → hi ≤ j → j < endOfRow cell → isIn 5 (getD ms j 0) ≡ false) → (f : Found) → FindsFirst (isIn 5) 0 ms (cell + 1) hi f → Ends ms cell (atOr (endOfRow cell) f)
     whole hi l above (At e) r = record { past = omega (arith, r .low); within = omega (arith, r .high); none = λ j a b. r .none j (omega arith) b; stop = λ _. r .hit }
     whole hi l above Nothing r = record { past = omega arith; within = omega arith; none = λ j a b. either j a b (decLt j hi); stop = λ w. absurd (omega arith) }
       where
-        either : (j : ℕ) → cell < j → j < rowEnd cell → Dec (j < hi) → isIn 5 (getD ms j 0) ≡ false
+        either : (j : ℕ) → cell < j → j < endOfRow cell → Dec (j < hi) → isIn 5 (getD ms j 0) ≡ false
         either j a b (yes h) = r j (omega arith) h
         either j a b (no h) = above j (omega arith) b
 
-    go : Dec (length ms < rowEnd cell) → Ends ms cell (atOr (rowEnd cell) (firstIn (isIn 5) ms (cell + 1) (rowEnd cell)))
+    go : Dec (length ms < endOfRow cell) → Ends ms cell (atOr (endOfRow cell) (firstIn (isIn 5) ms (cell + 1) (endOfRow cell)))
     go (yes h) =
-        rw (first-cut (isIn 5) ms (cell + 1) (rowEnd cell) (omega arith))
+        rw (first-cut (isIn 5) ms (cell + 1) (endOfRow cell) (omega arith))
         (whole (length ms) (omega arith) (λ j a b. past-end j a) (firstIn (isIn 5) ms (cell + 1) (length ms)) (first-finds (isIn 5) 0 ms (cell + 1) (length ms) (omega arith)))
     go (no h) =
-        whole (rowEnd cell) (omega arith) (λ j a b. absurd (omega arith)) (firstIn (isIn 5) ms (cell + 1) (rowEnd cell))
-        (first-finds (isIn 5) 0 ms (cell + 1) (rowEnd cell) (omega arith))
+        whole (endOfRow cell) (omega arith) (λ j a b. absurd (omega arith)) (firstIn (isIn 5) ms (cell + 1) (endOfRow cell))
+        (first-finds (isIn 5) 0 ms (cell + 1) (endOfRow cell) (omega arith))
 
 -- no second end is so
 pub one-end : {ms : List ℕ} {cell e f : ℕ} → Ends ms cell e → Ends ms cell f → e ≡ f
@@ -68,7 +68,7 @@ pub field-inside : (ms : List ℕ) (rows start cell : ℕ) → length ms ≡ row
 field-inside ms rows start cell n f = omega (arith, end-inside ms rows start n (marked-inside 4 ms start (f .starts)), f .upto)
 
 -- the end depends on the later marks of the row alone
-pub end-same : (xs ys : List ℕ) (cell : ℕ) → ((j : ℕ) → cell < j → j < rowEnd cell → getD xs j 0 ≡ getD ys j 0) → fieldEnd xs cell ≡ fieldEnd ys cell
+pub end-same : (xs ys : List ℕ) (cell : ℕ) → ((j : ℕ) → cell < j → j < endOfRow cell → getD xs j 0 ≡ getD ys j 0) → fieldEnd xs cell ≡ fieldEnd ys cell
 end-same xs ys cell h = one-end same (field-ends ys cell)
   where
     r : Ends xs cell (fieldEnd xs cell)

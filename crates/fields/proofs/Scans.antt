@@ -11,7 +11,7 @@ use lib.ListN.{length, getD}
 use Rattle.cells.specs.Search.{firstIn, lastIn, nthOf}
 use Rattle.cells.proofs.Search.{first-map, last-map, nth-map, first-short, last-short, else-first, else-second, Downto, down-hit, down-end}
 use Rattle.cells.specs.declared.Found.the-variants.{At, Nothing}
-use Rattle.fields.specs.Fields.{markOf, marks, isIn, rowStart, markFound, kindAt, unprotected, nextStart, prevStart, nonBlank, rowUnder, rowUnderText}
+use Rattle.fields.specs.Fields.{markOf, marks, isIn, startOfRow, markFound, kindAt, unprotected, nextStart, prevStart, nonBlank, rowUnder, rowUnderText}
 use Rattle.fields.specs.Walk.{kindAfter}
 use Rattle.fields.proofs.Marks.{mark-at, length-marks}
 use Rattle.fields.proofs.Kind.{kind-step}
@@ -34,14 +34,14 @@ module _ (highest : ℕ) (attrs : List ℕ) where
   nth-marks n = sym (nth-map (isIn highest) markOf n 0 attrs)
 
 -- ---- back from the cell: the first mark met governs it, and none where its row has none up to it
-module _ {attrs : List ℕ} {i : ℕ} (cell : ℕ) (d : Downto (hasMark 5) 0 attrs (rowStart cell) (cell + 1) i) where
-  pub kind-hit : rowStart cell < i → hasMark 5 (getD attrs (i - 1) 0) ≡ true → markOf (getD attrs (i - 1) 0) ≡ kindAt (marks attrs) cell
+module _ {attrs : List ℕ} {i : ℕ} (cell : ℕ) (d : Downto (hasMark 5) 0 attrs (startOfRow cell) (cell + 1) i) where
+  pub kind-hit : startOfRow cell < i → hasMark 5 (getD attrs (i - 1) 0) ≡ true → markOf (getD attrs (i - 1) 0) ≡ kindAt (marks attrs) cell
   unfolding kindAt
-  kind-hit l t = sym (mark-at attrs (i - 1)) ∙ ap (markFound (marks attrs)) (down-hit {j = i - 1} d (omega arith) t (omega arith) ∙ last-marks 5 attrs (rowStart cell) (cell + 1))
+  kind-hit l t = sym (mark-at attrs (i - 1)) ∙ ap (markFound (marks attrs)) (down-hit {j = i - 1} d (omega arith) t (omega arith) ∙ last-marks 5 attrs (startOfRow cell) (cell + 1))
 
-  pub kind-none : i ≤ rowStart cell → 0 ≡ kindAt (marks attrs) cell
+  pub kind-none : i ≤ startOfRow cell → 0 ≡ kindAt (marks attrs) cell
   unfolding kindAt
-  kind-none l = ap (markFound (marks attrs)) (down-end d l ∙ last-marks 5 attrs (rowStart cell) (cell + 1))
+  kind-none l = ap (markFound (marks attrs)) (down-end d l ∙ last-marks 5 attrs (startOfRow cell) (cell + 1))
 
 -- ---- onward from a cell: the kind at hand, with the mark of cell i, gives the kind of cell i
 pub record Onward (attrs : List ℕ) (i kind : ℕ) : Type 0 where

@@ -21,15 +21,15 @@ marks attrs = map markOf attrs
 unfoldable pub isIn : ℕ → ℕ → Bool
 isIn highest mark = within 1 highest mark
 
-abbrev pub rowStart : ℕ → ℕ
-rowStart cell = cell / 80 * 80
+abbrev pub startOfRow : ℕ → ℕ
+startOfRow cell = cell / 80 * 80
 
-abbrev pub rowEnd : ℕ → ℕ
-rowEnd cell = cell / 80 * 80 + 80
+abbrev pub endOfRow : ℕ → ℕ
+endOfRow cell = cell / 80 * 80 + 80
 
 -- the cell past the field's last: the next mark 1 to 5 in that row, or the row's end
 unfoldable pub fieldEnd : List ℕ → ℕ → ℕ
-fieldEnd ms cell = atOr (rowEnd cell) (firstIn (isIn 5) ms (cell + 1) (rowEnd cell))
+fieldEnd ms cell = atOr (endOfRow cell) (firstIn (isIn 5) ms (cell + 1) (endOfRow cell))
 
 -- the kind of a cell: the last mark 1 to 5 in its row at or before it, which is 1 to 4 in a field and 5 behind one; 0 where there is none
 abbrev pub markFound : List ℕ → Found → ℕ
@@ -37,7 +37,7 @@ markFound ms (At k) = getD ms k 0
 markFound ms Nothing = 0
 
 unfoldable pub kindAt : List ℕ → ℕ → ℕ
-kindAt ms cell = markFound ms (lastIn (isIn 5) ms (rowStart cell) (cell + 1))
+kindAt ms cell = markFound ms (lastIn (isIn 5) ms (startOfRow cell) (cell + 1))
 
 -- fields of marks 1 to 3 are unprotected; all other cells are protected
 unfoldable pub unprotected : List ℕ → ℕ → Bool
@@ -71,14 +71,14 @@ unfoldable pub target : List ℕ → ℕ → Found
 target ms cell = cond (unprotected ms cell) (At cell) (nextStart ms cell)
 
 -- letters fields take A-Z, a-z and blank; digits fields 0-9 and blank; any other field every character
-unfoldable pub letter : ℕ → Bool
-letter v = within 65 90 v || within 97 122 v || eqb v 32
+unfoldable pub lettersTake : ℕ → Bool
+lettersTake v = within 65 90 v || within 97 122 v || eqb v 32
 
-unfoldable pub digit : ℕ → Bool
-digit v = within 48 57 v || eqb v 32
+unfoldable pub digitsTake : ℕ → Bool
+digitsTake v = within 48 57 v || eqb v 32
 
 unfoldable pub allowed : ℕ → ℕ → Bool
-allowed kind v = cond (eqb kind 2) (letter v) (cond (eqb kind 3) (digit v) true)
+allowed kind v = cond (eqb kind 2) (lettersTake v) (cond (eqb kind 3) (digitsTake v) true)
 
 -- home down: the row under the last row that has a non-blank, at most the last row; row 0 if all is blank
 abbrev pub nonBlank : ℕ → Bool

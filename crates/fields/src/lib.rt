@@ -5,7 +5,7 @@ ghost use lib.ListN.{length};
 ghost use Rattle.cells.specs.Search.{firstIn, lastIn};
 ghost use Rattle.cells.specs.Memory.{filledWhere};
 ghost use Rattle.fields.specs.Walk.{kindAfter};
-ghost use Rattle.fields.specs.Fields.{markOf, marks, isIn, kindAt, unprotected, fieldEnd, firstStart, nextStart, prevStart, nthField, target, letter, digit, allowed, nonBlank, rowUnderText};
+ghost use Rattle.fields.specs.Fields.{markOf, marks, isIn, kindAt, unprotected, fieldEnd, firstStart, nextStart, prevStart, nthField, target, lettersTake, digitsTake, allowed, nonBlank, rowUnderText};
 use cells::Found;
 
 // Whether a mark is 1 to `highest`.
@@ -186,7 +186,7 @@ pub fn find_target(attrs: &[u8], cell: usize) -> Found
 }
 
 fn is_letter(v: u8) -> bool
-    ensures { λ r. ⌜ r ≡ letter v ⌝ }
+    ensures { λ r. ⌜ r ≡ lettersTake v ⌝ }
 {
     if cells::is_within(65, 90, v) {
         return true;
@@ -198,7 +198,7 @@ fn is_letter(v: u8) -> bool
 }
 
 fn is_digit(v: u8) -> bool
-    ensures { λ r. ⌜ r ≡ digit v ⌝ }
+    ensures { λ r. ⌜ r ≡ digitsTake v ⌝ }
 {
     if cells::is_within(48, 57, v) {
         return true;

@@ -12,7 +12,7 @@ use Rattle.cells.specs.Memory.{patchFrom, patch, filled, shiftedRight, shiftedL
 use Rattle.cursor.specs.declared.Cursor.{Cursor}
 use Rattle.cursor.specs.Cursor.{gone, atCell, goneUp, goneDown, goneLeft, goneRight, inColumn, homeAt, risen, fallen, isPlaced}
 use Rattle.cursor.specs.Addressing.{aimed, heldTo, toColumn, toRow}
-use Rattle.fields.specs.Fields.{marks, isIn, fieldEnd, kindAt, unprotected, firstStart, nextStart, prevStart, nthField, fieldNumber, holds, target, letter, digit, allowed, rowUnderText}
+use Rattle.fields.specs.Fields.{marks, isIn, fieldEnd, kindAt, unprotected, firstStart, nextStart, prevStart, nthField, fieldNumber, holds, target, lettersTake, digitsTake, allowed, rowUnderText}
 use Rattle.reading.specs.Reading.{actionOf, unbegun, settled, counted, nextReading, soundNumber}
 use Rattle.screen.specs.Edits.{homed, homedDown, goneFound, tabbedIn, backTabbedIn, put, cellAfter, typedAt, typedIn, typed, displayCleared, lineCleared, charDeleted, markSet, markTurned}
 use Rattle.terminal.specs.State.{World, freshWorld, isGood, isSized, barred, Sound}
@@ -27,13 +27,13 @@ use Rattle.mixing.specs.Event.{key, post, run, answers, keysOf}
 use Rattle.mixing.specs.Mix.{Mixed, done, a-key, a-post, here, later}
 use Rattle.mixing.proofs.Mixes.{mixed-posts}
 use Rattle.promises.specs.Mixing.{Key, handled, answered}
-use Rattle.promises.specs.Form.{Events, Posts, shown, numbers, form, locked, awaited, bare, struck, keysFirst, postsFirst, posts, between, tag, Mixes, Covered, FormCovered, LockedCovered, PendingCovered, BareCovered, ReachNeeded, EnterBars, PostsKeepOrder, OrderShows}
+use Rattle.promises.specs.Form.{Events, Posts, shown, numbers, form, lockedForm, awaited, bare, struck, keysFirst, postsFirst, posts, between, tag, Mixes, Covered, FormCovered, LockedCovered, PendingCovered, BareCovered, ReachNeeded, EnterBars, PostsKeepOrder, OrderShows}
 use Rattle.promises.proofs.Sparing.{every, spares, keepApart, apart-by}
 use Rattle.promises.proofs.Mixing.{mixes-agree}
 
 -- what these computations look into
 unfoldable machine : ℕ
-unfolding firstOf lastOf countOf nthOf firstIn lastIn countIn patchFrom patch filled shiftedRight shiftedLeft filledWhereFrom filledWhere written posted gone atCell goneUp goneDown goneLeft goneRight inColumn homeAt risen fallen isPlaced aimed heldTo toColumn toRow marks isIn fieldEnd kindAt unprotected firstStart nextStart prevStart nthField fieldNumber holds target letter digit allowed rowUnderText actionOf unbegun settled counted nextReading soundNumber homed homedDown goneFound tabbedIn backTabbedIn put cellAfter typedAt typedIn typed displayCleared lineCleared charDeleted markSet markTurned freshWorld isGood isSized barred switched tabbedBy backTabbedBy steered stamps stamped acted keyAction firstRefusal disallows keyRefusal keyDone keyed fits allFit tooLong misfits postRefusal postedAt postedTo actionFor readOn steppedBy stepped replyTo answerTo fedOn hostRefusal fed form locked awaited bare
+unfolding firstOf lastOf countOf nthOf firstIn lastIn countIn patchFrom patch filled shiftedRight shiftedLeft filledWhereFrom filledWhere written posted gone atCell goneUp goneDown goneLeft goneRight inColumn homeAt risen fallen isPlaced aimed heldTo toColumn toRow marks isIn fieldEnd kindAt unprotected firstStart nextStart prevStart nthField fieldNumber holds target lettersTake digitsTake allowed rowUnderText actionOf unbegun settled counted nextReading soundNumber homed homedDown goneFound tabbedIn backTabbedIn put cellAfter typedAt typedIn typed displayCleared lineCleared charDeleted markSet markTurned freshWorld isGood isSized barred switched tabbedBy backTabbedBy steered stamps stamped acted keyAction firstRefusal disallows keyRefusal keyDone keyed fits allFit tooLong misfits postRefusal postedAt postedTo actionFor readOn steppedBy stepped replyTo answerTo fedOn hostRefusal fed form lockedForm awaited bare
 machine = 0
 
 -- where the runs start
@@ -44,8 +44,8 @@ form-sound : Sound 48 (form 48)
 unfolding form
 form-sound = fed-sound fresh _ _
 
-locked-sound : Sound 48 (locked 48)
-unfolding locked
+locked-sound : Sound 48 (lockedForm 48)
+unfolding lockedForm
 locked-sound = fed-sound form-sound _ _
 
 awaited-sound : Sound 48 (awaited 48)

@@ -11,7 +11,7 @@ use Rattle.cells.specs.Search.{atOr}
 use Rattle.cells.specs.Memory.{filled, filledWhere, shiftedRight, shiftedLeft, movedUp, movedDown}
 use Rattle.cursor.specs.declared.Cursor.{Cursor}
 use Rattle.cursor.specs.Cursor.{cellOf, gone, atCell, goneDown, inColumn, homeAt}
-use Rattle.fields.specs.Fields.{markOf, isIn, rowEnd, kindAt, unprotected, fieldEnd, firstStart, nextStart, prevStart, target, allowed, rowUnderText}
+use Rattle.fields.specs.Fields.{markOf, isIn, endOfRow, kindAt, unprotected, fieldEnd, firstStart, nextStart, prevStart, target, allowed, rowUnderText}
 use Rattle.screen.specs.Page.{Page, page, withCursor, cell, marksOf}
 
 -- ---- line feed: next row, same column; at the last row with format off all rows with attributes move up, the last becomes blank with attributes 0;
@@ -54,7 +54,7 @@ onward rows p =
 
 -- format off: written at the cursor, then right
 unfoldable pub typedFree : ℕ → Bool → ℕ → Page → Page
-typedFree rows insert v p = onward rows (page (p .cursor) (put insert (p .chars) (cell p) (rowEnd (cell p)) v) (p .attrs))
+typedFree rows insert v p = onward rows (page (p .cursor) (put insert (p .chars) (cell p) (endOfRow (cell p)) v) (p .attrs))
 
 -- format on: the cursor goes to the next cell of that field, or from its last cell to the next field start, as for tab
 unfoldable pub cellAfter : List ℕ → ℕ → ℕ
@@ -83,13 +83,13 @@ unfoldable pub lineCleared : Bool → Page → Page
 lineCleared true p =
     cond (unprotected (marksOf p) (cell p)) (page (p .cursor) (filled (p .chars) (cell p) (fieldEnd (marksOf p) (cell p)) 32) (p .attrs)) p
 lineCleared false p =
-    page (p .cursor) (filled (p .chars) (cell p) (rowEnd (cell p)) 32) (filled (p .attrs) (cell p) (rowEnd (cell p)) 0)
+    page (p .cursor) (filled (p .chars) (cell p) (endOfRow (cell p)) 32) (filled (p .attrs) (cell p) (endOfRow (cell p)) 0)
 
 -- ---- delete character: the rest of the row (format on: of the unprotected field, else nothing) moves left, a blank enters; attributes stay
 unfoldable pub charDeleted : Bool → Page → Page
 charDeleted true p =
     cond (unprotected (marksOf p) (cell p)) (page (p .cursor) (shiftedLeft (p .chars) (cell p) (fieldEnd (marksOf p) (cell p)) 32) (p .attrs)) p
-charDeleted false p = page (p .cursor) (shiftedLeft (p .chars) (cell p) (rowEnd (cell p)) 32) (p .attrs)
+charDeleted false p = page (p .cursor) (shiftedLeft (p .chars) (cell p) (endOfRow (cell p)) 32) (p .attrs)
 
 -- ---- insert and delete row: format off only; rows with attributes move, a blank row with attributes 0 enters, the last row is lost on insert; column 0
 unfoldable pub rowInserted : Bool → Page → Page

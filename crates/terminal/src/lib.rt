@@ -9,7 +9,7 @@ ghost use Rattle.fields.specs.Fields.{marks};
 ghost use Rattle.screen.specs.Edits.{homed, homedDown, lineFed, typed, displayCleared, lineCleared, charDeleted, rowInserted, rowDeleted};
 ghost use Rattle.terminal.specs.State.{world, stated, placed, stopped, pageOf, paged, freshState, freshWorld, isGood, isSized, Sound, barred};
 ghost use Rattle.terminal.specs.Fresh.{freshLeft, freshened};
-ghost use Rattle.terminal.specs.Acts.{formatted, inserting, locked, asking, softReset, tabSet, switched, tabbedBy, backTabbedBy, steered, stamps, stamped, acted};
+ghost use Rattle.terminal.specs.Acts.{formatted, inserting, locked, asking, softlyReset, tabSet, switched, tabbedBy, backTabbedBy, steered, stamps, stamped, acted};
 use cursor::Cursor;
 use reading::Number;
 
@@ -120,7 +120,7 @@ impl Terminal {
     }
 
     pub fn reset_soft(mut self) -> Terminal
-        ensures { λ r. ⌜ r ≡ softReset self ⌝ }
+        ensures { λ r. ⌜ r ≡ softlyReset self ⌝ }
     {
         self.insert = false;
         self.lock = false;
