@@ -1,6 +1,4 @@
 // The terminal as a picture in text: the state in words, then the rows with their fields, the cursor and the window.
-mod rows;
-
 use cursor::Cursor;
 use printing::Output;
 use printing::Page;
@@ -8,66 +6,189 @@ use terminal::Terminal;
 
 // The whole picture.
 pub fn print(out: Output, page: &mut Page, t: Terminal, chars: &[u8], attrs: &[u8]) -> Output {
-    let out = print_state(out, page, t);
-    rows::print(out, page, t.cursor, chars, attrs)
+    let out = wording::print(out, page, t);
+    print_rows(out, page, t.cursor, chars, attrs)
 }
 
-fn print_state(out: Output, page: &mut Page, t: Terminal) -> Output {
-    let out = print_place(out, page, t.cursor);
-    let out = printing::either(out, page, t.format, b"format mode on", b"format mode off");
-    let out = printing::either(
+// The rows of the memory. Blank rows that hold neither a field nor the cursor are counted and left out.
+fn print_rows(out: Output, page: &mut Page, cursor: Cursor, chars: &[u8], attrs: &[u8]) -> Output {
+    let mut o = print_ruler(out, page);
+    let mut left_out = 0;
+    for row in 0..48 {
+        if is_left_out(row, cursor.row, chars, attrs) {
+            left_out += 1;
+        } else {
+            o = print_left_out(o, page, left_out);
+            left_out = 0;
+            o = print_row(o, page, row, cursor, chars, attrs);
+        }
+    }
+    print_left_out(o, page, left_out)
+}
+
+// The columns' tens and units.
+fn print_ruler(out: Output, page: &mut Page) -> Output {
+    let out = printing::text(
         out,
         page,
-        t.insert,
-        b", insert mode on",
-        b", insert mode off",
+        b"       0         1         2         3         4         5         6         7\n",
     );
-    let out = printing::either(out, page, t.lock, b", host lock on\n", b", host lock off\n");
-    let out = print_pending(out, page, t.pending);
-    let tabs = t.tabs;
-    let out = print_stops(out, page, tabs);
     printing::text(
         out,
         page,
-        b"fields: a any character, l letters, d digits, t transmit-only; _ is a blank of an unprotected field, ? no printable character\n\n",
+        b"       01234567890123456789012345678901234567890123456789012345678901234567890123456789\n",
     )
 }
 
-// The cursor's cell and the window's rows.
-fn print_place(out: Output, page: &mut Page, cursor: Cursor) -> Output {
-    let out = printing::named(out, page, b"cursor: row ", cursor.row);
-    let out = printing::named(out, page, b", column ", cursor.col);
-    let out = printing::named(out, page, b"\nwindow: rows ", cursor.top);
-    let out = print_last_row(out, page, cursor.top);
-    printing::text(out, page, b"\n")
-}
-
-fn print_last_row(out: Output, page: &mut Page, top: usize) -> Output {
-    if top < 1000 {
-        return printing::named(out, page, b" to ", top + 23);
+fn print_left_out(out: Output, page: &mut Page, rows: usize) -> Output {
+    if 0 < rows {
+        let out = printing::named(out, page, b"       (", rows);
+        return printing::either(out, page, rows == 1, b" blank row)\n", b" blank rows)\n");
     }
     out
 }
 
-fn print_pending(out: Output, page: &mut Page, pending: u8) -> Output {
-    let out = printing::text(out, page, b"pending transfer: ");
-    match pending {
-        0 => printing::text(out, page, b"none\n"),
-        1 => printing::text(out, page, b"absolute cursor\n"),
-        2 => printing::text(out, page, b"window cursor\n"),
-        3 => printing::text(out, page, b"status\n"),
-        _ => printing::text(out, page, b"block\n"),
+// Whether a row has blanks alone, no mark and not the cursor.
+fn is_left_out(row: usize, cursor: usize, chars: &[u8], attrs: &[u8]) -> bool {
+    if row == cursor {
+        return false;
     }
+    for col in 0..80 {
+        if !is_empty(row, col, chars, attrs) {
+            return false;
+        }
+    }
+    true
 }
 
-fn print_stops(out: Output, page: &mut Page, tabs: [bool; 80]) -> Output {
-    let mut o = printing::text(out, page, b"tab stops:");
+fn is_empty(row: usize, col: usize, chars: &[u8], attrs: &[u8]) -> bool {
+    let cell = cell_of(row, col);
+    if cell < chars.len() {
+        if cell < attrs.len() {
+            return chars[cell] == 32 && attrs[cell] == 0;
+        }
+    }
+    true
+}
+
+fn cell_of(row: usize, col: usize) -> usize {
+    row % 48 * 80 + col % 80
+}
+
+// The row's number, behind `>` where the window shows it, its cells, the letters of its fields, and `^` under the cursor.
+fn print_row(
+    out: Output,
+    page: &mut Page,
+    row: usize,
+    cursor: Cursor,
+    chars: &[u8],
+    attrs: &[u8],
+) -> Output {
+    let out = print_number(out, page, row, is_shown(row, cursor.top));
+    let out = print_cells(out, page, row, chars, attrs);
+    let out = print_letters(out, page, row, attrs);
+    print_pointer(out, page, row, cursor)
+}
+
+// Whether the window shows a row.
+fn is_shown(row: usize, top: usize) -> bool {
+    if top <= row {
+        return row - top < 24;
+    }
+    false
+}
+
+fn print_number(out: Output, page: &mut Page, row: usize, is_shown: bool) -> Output {
+    let out = printing::either(out, page, is_shown, b"> ", b"  ");
+    if row < 10 {
+        return printing::named(out, page, b" ", row);
+    }
+    printing::named(out, page, b"", row)
+}
+
+fn print_cells(out: Output, page: &mut Page, row: usize, chars: &[u8], attrs: &[u8]) -> Output {
+    let mut line = [32u8; 80];
+    for col in 0..80 {
+        line[col] = face_of(row, col, chars, attrs);
+    }
+    print_line(out, page, b"  |", &line, b"|\n")
+}
+
+// The letters of the row's fields, where it has one.
+fn print_letters(out: Output, page: &mut Page, row: usize, attrs: &[u8]) -> Output {
+    let mut line = [32u8; 80];
     let mut some = false;
-    for i in 0..80 {
-        if tabs[i] {
-            o = printing::named(o, page, b" ", i);
+    for col in 0..80 {
+        let letter = letter_of(row, col, attrs);
+        line[col] = letter;
+        if letter != 32 {
             some = true;
         }
     }
-    printing::either(o, page, some, b"\n", b" none\n")
+    if some {
+        return print_line(out, page, b"       ", &line, b"\n");
+    }
+    out
+}
+
+// `^` in the cursor's column, below its row.
+fn print_pointer(out: Output, page: &mut Page, row: usize, cursor: Cursor) -> Output {
+    if row != cursor.row {
+        return out;
+    }
+    let mut line = [32u8; 80];
+    let col = cursor.col;
+    if col < 80 {
+        line[col] = b'^';
+    }
+    print_line(out, page, b"       ", &line, b"\n")
+}
+
+fn print_line(
+    out: Output,
+    page: &mut Page,
+    before: &[u8],
+    line: &[u8; 80],
+    after: &[u8],
+) -> Output {
+    let out = printing::text(out, page, before);
+    let out = printing::text(out, page, line);
+    printing::text(out, page, after)
+}
+
+// What a cell looks like: its character, `_` for a blank of an unprotected field, `?` for a byte that has no character.
+fn face_of(row: usize, col: usize, chars: &[u8], attrs: &[u8]) -> u8 {
+    let cell = cell_of(row, col);
+    if cell < chars.len() {
+        if cell < attrs.len() {
+            return face(chars[cell], fields::is_unprotected(attrs, cell));
+        }
+    }
+    b'?'
+}
+
+fn face(v: u8, is_unprotected: bool) -> u8 {
+    if v == 32 && is_unprotected {
+        return b'_';
+    }
+    if 32 <= v && v < 127 {
+        return v;
+    }
+    b'?'
+}
+
+// The letter of the field that holds a cell, or a blank.
+fn letter_of(row: usize, col: usize, attrs: &[u8]) -> u8 {
+    let cell = cell_of(row, col);
+    if cell < attrs.len() {
+        let kind = fields::kind_at(attrs, cell);
+        return match kind {
+            1 => b'a',
+            2 => b'l',
+            3 => b'd',
+            4 => b't',
+            _ => b' ',
+        };
+    }
+    b' '
 }

@@ -1,8 +1,8 @@
--- `picture::rows::print_cells` is safe and ends: the loop passes the 80 columns. Assumes nothing.
+-- `picture::print_cells` is safe and ends: the loop passes the 80 columns. Assumes nothing.
 use Prim.Native.Nat.{_≤_, _-_}
 use borrow.Author.Needs.{needs}
-use Rattle.picture.proofs.rows.print_cells.Statement.{statement}
-use Rattle.picture.proofs.rows.print_cells.Tie as tie
+use Rattle.picture.proofs.print_cells.Statement.{statement}
+use Rattle.picture.proofs.print_cells.Tie as tie
 
 abbrev Inv-loop : tie.InvT-loop
 Inv-loop out page row chars attrs line₀ col₀ t8 t9 line col = col ≤ 80

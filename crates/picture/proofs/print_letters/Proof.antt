@@ -1,8 +1,8 @@
--- `picture::rows::print_letters` is safe and ends: the loop passes the 80 columns. Assumes nothing.
+-- `picture::print_letters` is safe and ends: the loop passes the 80 columns. Assumes nothing.
 use Prim.Native.Nat.{_≤_, _-_}
 use borrow.Author.Needs.{needs}
-use Rattle.picture.proofs.rows.print_letters.Statement.{statement}
-use Rattle.picture.proofs.rows.print_letters.Tie as tie
+use Rattle.picture.proofs.print_letters.Statement.{statement}
+use Rattle.picture.proofs.print_letters.Tie as tie
 
 abbrev Inv-loop : tie.InvT-loop
 Inv-loop out page row attrs line₀ some₀ col₀ t9 t10 line some col = col ≤ 80

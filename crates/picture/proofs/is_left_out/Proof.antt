@@ -1,8 +1,8 @@
--- `picture::rows::is_left_out` is safe and ends: the loop passes the 80 columns. Assumes nothing.
+-- `picture::is_left_out` is safe and ends: the loop passes the 80 columns. Assumes nothing.
 use Prim.Native.Nat.{_≤_, _-_}
 use borrow.Author.Needs.{needs}
-use Rattle.picture.proofs.rows.is_left_out.Statement.{statement}
-use Rattle.picture.proofs.rows.is_left_out.Tie as tie
+use Rattle.picture.proofs.is_left_out.Statement.{statement}
+use Rattle.picture.proofs.is_left_out.Tie as tie
 
 abbrev Inv-loop : tie.InvT-loop
 Inv-loop row cursor chars attrs col₀ col = col ≤ 80

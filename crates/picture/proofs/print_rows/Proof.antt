@@ -1,10 +1,10 @@
--- `picture::rows::print` is safe and ends: no more rows are left out than were passed. Assumes nothing.
+-- `picture::print_rows` is safe and ends: no more rows are left out than were passed. Assumes nothing.
 use Prim.Native.Nat.{_≤_, _-_}
 use native.Mathlib.Omega.{arith}
 use mathlib.Core.Logic.{⊎-elim}
 use borrow.Author.Needs.{needs}
-use Rattle.picture.proofs.rows.print.Statement.{statement}
-use Rattle.picture.proofs.rows.print.Tie as tie
+use Rattle.picture.proofs.print_rows.Statement.{statement}
+use Rattle.picture.proofs.print_rows.Tie as tie
 
 abbrev Inv-loop : tie.InvT-loop
 Inv-loop page₀ cursor chars attrs o₀ left-out₀ row₀ page o left-out row = (row ≤ 48) × (left-out ≤ row)
@@ -12,8 +12,8 @@ Inv-loop page₀ cursor chars attrs o₀ left-out₀ row₀ page o left-out row 
 abbrev μ-loop : tie.MeasureT-loop
 μ-loop page₀ cursor chars attrs o₀ left-out₀ row₀ page o left-out row = 48 - row
 
-pub print-spec : {M : Type 1} → statement M
-print-spec =
+pub print-rows-spec : {M : Type 1} → statement M
+print-rows-spec =
     tie.close
     (tie.spec Inv-loop μ-loop
     (λ c κs. search needs)
