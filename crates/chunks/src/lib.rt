@@ -146,7 +146,7 @@ fn show_record(
     Progress {
         out: printing::either(out, page, is_raw, b"\n", b""),
         state: t,
-        number: next(p.number),
+        number: sessions::next(p.number),
         some: false,
     }
 }
@@ -172,15 +172,6 @@ fn is_some(some: bool, n: usize) -> bool {
         return true;
     }
     some
-}
-
-// The number of the next record, as `sessions` counts.
-fn next(number: u64) -> u64 {
-    if number < 18446744073709551615 {
-        number + 1
-    } else {
-        number
-    }
 }
 
 // The place `n` bytes on, at most `end`.

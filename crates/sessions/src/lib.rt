@@ -46,7 +46,7 @@ fn write_three(lines: &mut [u8], at: usize, a: u64, b: u64, c: u64) -> usize
 }
 
 // The number of the next record.
-fn next(number: u64) -> u64
+pub fn next(number: u64) -> u64
     ensures { λ r. ⌜ r ≡ Session·next number ⌝ }
 {
     if number < 18446744073709551615 {
