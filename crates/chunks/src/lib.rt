@@ -5,13 +5,6 @@ use printing::Output;
 use printing::Page;
 use terminal::Terminal;
 
-// What a file is asked for: the lines of a session, or a terminal to be shown after session records, or after a host stream; as a picture, or raw for scripts.
-pub struct Way {
-    pub is_session: bool,
-    pub is_host: bool,
-    pub is_raw: bool,
-}
-
 // What is printed, the terminal, the number of the next record, and whether the line of replies to a host stream has a byte yet.
 pub struct Progress {
     pub out: Output,
@@ -51,6 +44,13 @@ pub fn answer(
         }
         calls -= 1;
     }
+}
+
+// The end line of a session.
+pub fn end(p: Progress, page: &mut Page, line: &mut [u8; 7680]) -> Output {
+    let t = p.state;
+    let n = sessions::write_end(t.cursor, line);
+    print_first(p.out, page, line, n)
 }
 
 fn print_first(out: Output, page: &mut Page, lines: &[u8], n: usize) -> Output {

@@ -1,10 +1,15 @@
-// What stands behind the last record of a file: the end line, or the terminal, or why the file could not be read.
-use chunks::Progress;
-use chunks::Way;
+// What stands behind the last record of a file: the terminal, or why the file could not be read.
 use libc::STDERR_FILENO;
 use printing::Output;
 use printing::Page;
 use terminal::Terminal;
+
+// What a file is asked for: the lines of a session, or a terminal to be shown after session records, or after a host stream; as a picture, or raw for scripts.
+pub struct Way {
+    pub is_session: bool,
+    pub is_host: bool,
+    pub is_raw: bool,
+}
 
 // A file that cannot be read to its end has no end line, no picture and no state. The line of replies to a host stream ends.
 pub fn break_off(out: Output, page: &mut Page, way: Way, name: &[u8]) -> Output {
@@ -12,35 +17,24 @@ pub fn break_off(out: Output, page: &mut Page, way: Way, name: &[u8]) -> Output 
     tell(out, page, name)
 }
 
-// What stands behind the last record: the end line, or the picture, or the lines for scripts.
+// The picture, or the lines for scripts; before them that the input ends inside a record, of which `rest` bytes are there.
 pub fn finish(
-    p: Progress,
+    out: Output,
     page: &mut Page,
+    t: Terminal,
     chars: &[u8; 3840],
     attrs: &[u8; 3840],
-    room: &mut [u8; 7680],
     way: Way,
+    number: u64,
     rest: usize,
     name: &[u8],
 ) -> Output {
-    let t = p.state;
-    if way.is_session {
-        return print_end(p.out, page, t, room);
-    }
     if way.is_raw {
-        let out = end_replies(p.out, page, way.is_host, p.number, rest, name);
+        let out = end_replies(out, page, way.is_host, number, rest, name);
         return listing::print(out, page, t, chars, attrs);
     }
-    let out = print_rest(p.out, page, way.is_host, p.number, rest);
+    let out = print_rest(out, page, way.is_host, number, rest);
     picture::print(out, page, t, chars, attrs)
-}
-
-fn print_end(out: Output, page: &mut Page, t: Terminal, line: &mut [u8]) -> Output {
-    let n = sessions::write_end(t.cursor, line);
-    if n <= line.len() {
-        return printing::text(out, page, &line[0..n]);
-    }
-    out
 }
 
 // That the input ends inside a record. A host stream has none.

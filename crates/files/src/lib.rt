@@ -2,7 +2,7 @@
 ghost use Prim.Native.Nat.{_≤_};
 ghost use lib.ListN.{length};
 use chunks::Progress;
-use chunks::Way;
+use endings::Way;
 use printing::Output;
 use printing::Page;
 use terminal::Terminal;
@@ -15,7 +15,11 @@ pub fn run(out: Output, page: &mut Page, way: Way, fd: i32, name: &[u8]) -> Outp
     let r = read(out, page, &mut chars, &mut attrs, &mut room, way, fd);
     let p = r.progress;
     if r.is_well {
-        return endings::finish(p, page, &chars, &attrs, &mut room, way, r.rest, name);
+        if way.is_session {
+            return chunks::end(p, page, &mut room);
+        }
+        let t = p.state;
+        return endings::finish(p.out, page, t, &chars, &attrs, way, p.number, r.rest, name);
     }
     endings::break_off(p.out, page, way, name)
 }

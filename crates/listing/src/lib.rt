@@ -1,4 +1,6 @@
-// The terminal in lines for scripts: replies, the state and the memory.
+// The terminal in lines for scripts: replies, the state and the memory; and its state in words.
+pub mod words;
+
 use printing::Output;
 use printing::Page;
 use terminal::Terminal;

@@ -6,7 +6,7 @@ use terminal::Terminal;
 
 // The whole picture.
 pub fn print(out: Output, page: &mut Page, t: Terminal, chars: &[u8], attrs: &[u8]) -> Output {
-    let out = wording::print(out, page, t);
+    let out = listing::words::print(out, page, t);
     print_rows(out, page, t.cursor, chars, attrs)
 }
 

@@ -1,5 +1,5 @@
 // What the words behind a program's name ask for.
-use chunks::Way;
+use endings::Way;
 
 // `files` is 0, 1, or 2 for several; `is_bad` is for a word that begins with `-`.
 pub struct Asked {

@@ -1,8 +1,8 @@
--- `wording::print_stops` is safe and ends: the loop passes the 80 columns. Assumes nothing.
+-- `listing::words::print_stops` is safe and ends: the loop passes the 80 columns. Assumes nothing.
 use Prim.Native.Nat.{_≤_, _-_}
 use borrow.Author.Needs.{needs}
-use Rattle.wording.proofs.print_stops.Statement.{statement}
-use Rattle.wording.proofs.print_stops.Tie as tie
+use Rattle.listing.proofs.words.print_stops.Statement.{statement}
+use Rattle.listing.proofs.words.print_stops.Tie as tie
 
 abbrev Inv-loop : tie.InvT-loop
 Inv-loop page₀ tabs o₀ some₀ i₀ t9 t10 t11 page o some i = (i ≤ 80)
