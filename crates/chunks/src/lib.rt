@@ -60,7 +60,7 @@ fn print_first(out: Output, page: &mut Page, lines: &[u8], n: usize) -> Output {
     out
 }
 
-// Host bytes, with an emptied reply buffer for each call until all is taken.
+// Host bytes, with the whole reply buffer for each call until all is taken; what an earlier reply left in it is written over, and never told.
 pub fn feed(
     p: Progress,
     page: &mut Page,
@@ -114,7 +114,7 @@ pub fn show(
     q
 }
 
-// One record, with an emptied reply buffer for each call until it is done; raw, its reply bytes are a line.
+// One record, with the whole reply buffer for each call until it is done; raw, its reply bytes are a line.
 fn show_record(
     p: Progress,
     page: &mut Page,
