@@ -185,7 +185,8 @@ pub fn find_target(attrs: &[u8], cell: usize) -> Found
     next_start(attrs, cell)
 }
 
-fn is_letter(v: u8) -> bool
+// Whether a letters field takes a character.
+fn letters_take(v: u8) -> bool
     ensures { λ r. ⌜ r ≡ lettersTake v ⌝ }
 {
     if cells::is_within(65, 90, v) {
@@ -197,7 +198,8 @@ fn is_letter(v: u8) -> bool
     v == 32
 }
 
-fn is_digit(v: u8) -> bool
+// Whether a digits field takes a character.
+fn digits_take(v: u8) -> bool
     ensures { λ r. ⌜ r ≡ digitsTake v ⌝ }
 {
     if cells::is_within(48, 57, v) {
@@ -211,10 +213,10 @@ pub fn allows(kind: u8, v: u8) -> bool
     ensures { λ r. ⌜ r ≡ allowed kind v ⌝ }
 {
     if kind == 2 {
-        return is_letter(v);
+        return letters_take(v);
     }
     if kind == 3 {
-        return is_digit(v);
+        return digits_take(v);
     }
     true
 }

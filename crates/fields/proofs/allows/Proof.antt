@@ -12,7 +12,7 @@ allows-spec =
     tie.close
     (tie.spec
     (λ c κs. search needs)
-    (λ c. rw (eq-eqb _ 2 (c .before .if1 .taken)) (c .is-letter .ensures))
+    (λ c. rw (eq-eqb _ 2 (c .before .if1 .taken)) (c .letters-take .ensures))
     (λ c κs. search needs)
-    (λ c. rw (ne-eqb _ 2 (c .before .before .if1 .left), eq-eqb _ 3 (c .before .if2 .taken)) (c .is-digit .ensures))
+    (λ c. rw (ne-eqb _ 2 (c .before .before .if1 .left), eq-eqb _ 3 (c .before .if2 .taken)) (c .digits-take .ensures))
     (λ c. rw (ne-eqb _ 2 (c .before .if1 .left), ne-eqb _ 3 (c .if2 .left)) refl))
