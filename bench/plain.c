@@ -122,7 +122,7 @@ static size_t field_end(const uint8_t *attrs, size_t cell) {
 
 static bool allows(int mark, uint8_t b) {
     bool letter = (b >= 'A' && b <= 'Z') || (b >= 'a' && b <= 'z');
-    bool digit = b >= '0' && b <= '9';
+    bool digit = (b >= '0' && b <= '9') || b == '+' || b == '-' || b == '.' || b == ',';
     if (b < 32 || b > 126) return false;
     return mark == 1 || b == 32 || (mark == 2 ? letter : digit);
 }

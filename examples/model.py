@@ -1,4 +1,4 @@
-"""A second, independent implementation of document 01, from which the tests' expected outputs are computed.
+"""A second, independent implementation of document 01, with what document 02 changes, from which the tests' expected outputs are computed.
 
 Plain lists and ifs, no sharing with the Rattle code. `Terminal` has the three calls:
 
@@ -35,11 +35,11 @@ def allowed(kind, character):
     if character < 32 or character > 126:
         return False
     letter = ord("A") <= character <= ord("Z") or ord("a") <= character <= ord("z")
-    digit = ord("0") <= character <= ord("9")
+    in_a_weight = chr(character) in "0123456789+-.,"
     if kind == 2:
         return letter or character == 32
     if kind == 3:
-        return digit or character == 32
+        return in_a_weight or character == 32
     return True
 
 

@@ -1,5 +1,5 @@
--- Document 01, 'Cases to prove as a single statement over one list', on a fresh memory of `rows` rows. Each case compares everything that its sentence names,
--- and the whole memory where nothing or only a stretch changes. Assumes nothing.
+-- Document 01, 'Cases to prove as a single statement over one list', and weights in a digits field, on a fresh memory of `rows` rows. Each case compares
+-- everything that its sentence names, and the whole memory where nothing or only a stretch changes. Assumes nothing.
 use Prim.Native.Nat.{ℕ, _+_, _-_, _*_, _/_, _%_}
 use mathlib.Core.Path.{_≡_}
 use mathlib.Core.Bool.{Bool, true, false, cond, _&&_}
@@ -68,9 +68,12 @@ gives rows number taken reply h =
 abbrev pub fourCells : List ℕ
 fourCells = 27 ∷ 91 ∷ 27 ∷ 38 ∷ 97 ∷ 52 ∷ 67 ∷ 27 ∷ 93 ∷ 27 ∷ 87 ∷ []
 
--- the same with ESC 7 at cell 0: a digits field
+-- ESC [, ESC 7 or ESC 6, ESC & a 5 C, ESC ], ESC W: a digits or a letters field of five cells, then format on
 abbrev pub digitsForm : List ℕ
-digitsForm = 27 ∷ 91 ∷ 27 ∷ 55 ∷ 27 ∷ 38 ∷ 97 ∷ 52 ∷ 67 ∷ 27 ∷ 93 ∷ 27 ∷ 87 ∷ []
+digitsForm = 27 ∷ 91 ∷ 27 ∷ 55 ∷ 27 ∷ 38 ∷ 97 ∷ 53 ∷ 67 ∷ 27 ∷ 93 ∷ 27 ∷ 87 ∷ []
+
+abbrev pub lettersForm : List ℕ
+lettersForm = 27 ∷ 91 ∷ 27 ∷ 54 ∷ 27 ∷ 38 ∷ 97 ∷ 53 ∷ 67 ∷ 27 ∷ 93 ∷ 27 ∷ 87 ∷ []
 
 -- ESC & a 3 r 7 C, ESC [, ESC C, ESC ], ESC W: an only field, of one cell, at row 3, column 7
 abbrev pub oneCell : List ℕ
@@ -80,7 +83,33 @@ oneCell = 27 ∷ 38 ∷ 97 ∷ 51 ∷ 114 ∷ 55 ∷ 67 ∷ 27 ∷ 91 ∷ 27 ∷
 abbrev pub lastRow : ℕ → List ℕ
 lastRow rows = 65 ∷ 27 ∷ 38 ∷ 97 ∷ (48 + (rows - 1) / 10) ∷ (48 + (rows - 1) % 10) ∷ 114 ∷ 48 ∷ 67 ∷ 66 ∷ []
 
--- ---- the cases, in the document's order
+-- ---- a text and one field, at cell 0 of a form whose fields are blank: by a post, by the host and by keys
+
+-- text keys, one after the other: each answers 0, and the memory is then that of v
+unfoldable pub types : ℕ → World → List ℕ → World → Bool
+types rows w [] v = sameMemory w v
+types rows w (c ∷ text) v = let k = keyed rows w (room rows) c in eqb (k .number) 0 && types rows (k .world) text v
+
+-- it takes the text: all three write it there and nothing else, and the post leaves the state
+unfoldable pub takes : ℕ → List ℕ → List ℕ → Bool
+takes rows form text =
+    let w = after rows form in
+    let p = postedTo rows w 0 text in
+    let h = fed rows w text (room rows) in
+    eqb (p .number) 0 && sameState (p .world .state) (w .state)
+    && same (p .world .chars) (text ++ drop (length text) (w .chars)) && same (p .world .attrs) (w .attrs)
+    && gives rows 0 (length text) [] h && sameMemory (h .world) (p .world) && types rows w text (p .world)
+
+-- it refuses the character: 6 to the post and to the key; the host's byte is taken, with no answer of its own; and none of them changes anything
+unfoldable pub refuses : ℕ → List ℕ → ℕ → Bool
+refuses rows form v =
+    let w = after rows form in
+    let p = postedTo rows w 0 (v ∷ []) in
+    let k = keyed rows w (room rows) v in
+    let h = fed rows w (v ∷ []) (room rows) in
+    eqb (p .number) 6 && sameWorld (p .world) w && eqb (k .number) 6 && sameWorld (k .world) w && gives rows 0 1 [] h && sameWorld (h .world) w
+
+-- ---- the cases, in the document's order, then the weights
 unfoldable pub cases : ℕ → List Bool
 cases rows =
     -- empty stream: nothing taken, nothing written, nothing changed
@@ -121,6 +150,16 @@ cases rows =
     eqb (e .number) 0 && eqb (e .written) 1 && same (e .reply) (18 ∷ drop 1 (room rows)) && eqb (x .number) 4 && eqb (x .written) 0 && sameWorld (x .world) (e .world))
     -- block with format on and no field: one byte, 30
     ∷ (let h = fed rows (start rows) (27 ∷ 87 ∷ 27 ∷ 100 ∷ 17 ∷ []) (room rows) in gives rows 0 5 (30 ∷ []) h && sameMemory (h .world) (start rows))
+    -- a digits field takes the weights `-12,5` and `+12.5`
+    ∷ takes rows digitsForm (45 ∷ 49 ∷ 50 ∷ 44 ∷ 53 ∷ [])
+    ∷ takes rows digitsForm (43 ∷ 49 ∷ 50 ∷ 46 ∷ 53 ∷ [])
+    -- it refuses the neighbours of the signs and of the digits, `*`, `/` and `:`
+    ∷ refuses rows digitsForm 42
+    ∷ refuses rows digitsForm 47
+    ∷ refuses rows digitsForm 58
+    -- a letters field takes letters and blanks, `AZ az`, and refuses `,`
+    ∷ takes rows lettersForm (65 ∷ 90 ∷ 32 ∷ 97 ∷ 122 ∷ [])
+    ∷ refuses rows lettersForm 44
     ∷ []
 
 -- the places of the cases that fail

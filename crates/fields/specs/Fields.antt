@@ -70,12 +70,12 @@ holds ms n cell = unprotected ms cell && eqb (fieldNumber ms cell) n
 unfoldable pub target : List ℕ → ℕ → Found
 target ms cell = cond (unprotected ms cell) (At cell) (nextStart ms cell)
 
--- letters fields take A-Z, a-z and blank; digits fields 0-9 and blank; any other field every character
+-- letters fields take A-Z, a-z and blank; digits fields 0-9, `+` `,` `-` `.` (43 to 46) and blank; any other field every character
 unfoldable pub lettersTake : ℕ → Bool
 lettersTake v = within 65 90 v || within 97 122 v || eqb v 32
 
 unfoldable pub digitsTake : ℕ → Bool
-digitsTake v = within 48 57 v || eqb v 32
+digitsTake v = within 48 57 v || within 43 46 v || eqb v 32
 
 unfoldable pub allowed : ℕ → ℕ → Bool
 allowed kind v = cond (eqb kind 2) (lettersTake v) (cond (eqb kind 3) (digitsTake v) true)

@@ -205,6 +205,9 @@ fn digits_take(v: u8) -> bool
     if cells::is_within(48, 57, v) {
         return true;
     }
+    if cells::is_within(43, 46, v) {
+        return true;
+    }
     v == 32
 }
 

@@ -11,4 +11,6 @@ digits-take-spec =
     (tie.spec
     (λ c κs. search needs)
     (λ c. cc)
+    (λ c κs. search needs)
+    (λ c. cc)
     (λ c. cc))
