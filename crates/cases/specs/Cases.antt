@@ -83,7 +83,7 @@ oneCell = 27 ∷ 38 ∷ 97 ∷ 51 ∷ 114 ∷ 55 ∷ 67 ∷ 27 ∷ 91 ∷ 27 ∷
 abbrev pub lastRow : ℕ → List ℕ
 lastRow rows = 65 ∷ 27 ∷ 38 ∷ 97 ∷ (48 + (rows - 1) / 10) ∷ (48 + (rows - 1) % 10) ∷ 114 ∷ 48 ∷ 67 ∷ 66 ∷ []
 
--- ---- a text and one field, at cell 0 of a form whose fields are blank: by a post, by the host and by keys
+-- ---- a text for the field at cell 0 of a form, all of it blank: as a post, from the host and by keys
 
 -- text keys, one after the other: each answers 0, and the memory is then that of v
 unfoldable pub types : ℕ → World → List ℕ → World → Bool
@@ -153,7 +153,8 @@ cases rows =
     -- a digits field takes the weights `-12,5` and `+12.5`
     ∷ takes rows digitsForm (45 ∷ 49 ∷ 50 ∷ 44 ∷ 53 ∷ [])
     ∷ takes rows digitsForm (43 ∷ 49 ∷ 50 ∷ 46 ∷ 53 ∷ [])
-    -- it refuses the neighbours of the signs and of the digits, `*`, `/` and `:`
+    -- it refuses `A`, and the neighbours of the signs and of the digits, `*`, `/` and `:`
+    ∷ refuses rows digitsForm 65
     ∷ refuses rows digitsForm 42
     ∷ refuses rows digitsForm 47
     ∷ refuses rows digitsForm 58
