@@ -68,12 +68,15 @@ gives rows number taken reply h =
 abbrev pub fourCells : List ℕ
 fourCells = 27 ∷ 91 ∷ 27 ∷ 38 ∷ 97 ∷ 52 ∷ 67 ∷ 27 ∷ 93 ∷ 27 ∷ 87 ∷ []
 
--- ESC [, ESC 7 or ESC 6, ESC & a 5 C, ESC ], ESC W: a digits or a letters field of five cells, then format on
-abbrev pub digitsForm : List ℕ
-digitsForm = 27 ∷ 91 ∷ 27 ∷ 55 ∷ 27 ∷ 38 ∷ 97 ∷ 53 ∷ 67 ∷ 27 ∷ 93 ∷ 27 ∷ 87 ∷ []
+-- ESC [, ESC and a kind, ESC & a 5 C, ESC ], ESC W: a field of five cells, then format on. Kind 6 is letters, 7 digits
+abbrev pub fiveCells : ℕ → List ℕ
+fiveCells kind = 27 ∷ 91 ∷ 27 ∷ kind ∷ 27 ∷ 38 ∷ 97 ∷ 53 ∷ 67 ∷ 27 ∷ 93 ∷ 27 ∷ 87 ∷ []
 
 abbrev pub lettersForm : List ℕ
-lettersForm = 27 ∷ 91 ∷ 27 ∷ 54 ∷ 27 ∷ 38 ∷ 97 ∷ 53 ∷ 67 ∷ 27 ∷ 93 ∷ 27 ∷ 87 ∷ []
+lettersForm = fiveCells 54
+
+abbrev pub digitsForm : List ℕ
+digitsForm = fiveCells 55
 
 -- ESC & a 3 r 7 C, ESC [, ESC C, ESC ], ESC W: an only field, of one cell, at row 3, column 7
 abbrev pub oneCell : List ℕ

@@ -5,7 +5,7 @@ ghost use lib.ListN.{length};
 ghost use Rattle.cells.specs.Search.{firstIn, lastIn};
 ghost use Rattle.cells.specs.Memory.{filledWhere};
 ghost use Rattle.fields.specs.Walk.{kindAfter};
-ghost use Rattle.fields.specs.Fields.{markOf, marks, isIn, kindAt, unprotected, fieldEnd, firstStart, nextStart, prevStart, nthField, target, lettersTake, digitsTake, allowed, nonBlank, rowUnderText};
+ghost use Rattle.fields.specs.Fields.{markOf, marks, isIn, kindAt, unprotected, fieldEnd, firstStart, nextStart, prevStart, nthField, target, allowed, nonBlank, rowUnderText};
 use cells::Found;
 
 // Whether a mark is 1 to `highest`.
@@ -185,41 +185,15 @@ pub fn find_target(attrs: &[u8], cell: usize) -> Found
     next_start(attrs, cell)
 }
 
-// Whether a letters field takes a character.
-fn letters_take(v: u8) -> bool
-    ensures { λ r. ⌜ r ≡ lettersTake v ⌝ }
-{
-    if cells::is_within(65, 90, v) {
-        return true;
-    }
-    if cells::is_within(97, 122, v) {
-        return true;
-    }
-    v == 32
-}
-
-// Whether a digits field takes a character.
-fn digits_take(v: u8) -> bool
-    ensures { λ r. ⌜ r ≡ digitsTake v ⌝ }
-{
-    if cells::is_within(48, 57, v) {
-        return true;
-    }
-    if cells::is_within(43, 46, v) {
-        return true;
-    }
-    v == 32
-}
-
 // Whether a field of a kind takes a character.
 pub fn allows(kind: u8, v: u8) -> bool
     ensures { λ r. ⌜ r ≡ allowed kind v ⌝ }
 {
     if kind == 2 {
-        return letters_take(v);
+        return cells::is_within(65, 90, v) | cells::is_within(97, 122, v) | (v == 32);
     }
     if kind == 3 {
-        return digits_take(v);
+        return cells::is_within(48, 57, v) | cells::is_within(43, 46, v) | (v == 32);
     }
     true
 }
