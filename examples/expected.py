@@ -48,6 +48,10 @@ def kind_letter(terminal, cell):
     return " aldt"[field[2]] if field else " "
 
 
+def enhancement_letter(terminal, cell):
+    return " ABCDEFGHIJKLMNO"[terminal.attrs[cell] >> 4]
+
+
 def left_out(terminal, row):
     cells = slice(row * COLUMNS, (row + 1) * COLUMNS)
     blank = terminal.chars[cells] == [32] * COLUMNS and terminal.attrs[cells] == [0] * COLUMNS
@@ -67,6 +71,7 @@ def picture_lines(terminal):
     yield "pending transfer: " + PENDING[t.pending]
     yield "tab stops: " + (" ".join(str(col) for col in range(COLUMNS) if t.tabs[col]) or "none")
     yield "fields: a any character, l letters, d digits, t transmit-only; _ is a blank of an unprotected field, ? no printable character"
+    yield "enhancements: A to O, the letter that sets each; B is inverse video"
     yield ""
     yield (MARGIN + "".join("%d         " % tens for tens in range(COLUMNS // 10))).rstrip()
     yield MARGIN + "0123456789" * (COLUMNS // 10)
@@ -84,6 +89,9 @@ def picture_lines(terminal):
         kinds = "".join(kind_letter(t, cell) for cell in cells)
         if kinds.strip():
             yield MARGIN + kinds
+        enhancements = "".join(enhancement_letter(t, cell) for cell in cells)
+        if enhancements.strip():
+            yield MARGIN + enhancements
         if row == t.row:
             yield MARGIN + "".join("^" if col == t.col else " " for col in range(COLUMNS))
     if count > 0:

@@ -269,13 +269,15 @@ class Terminal:
             self.move_to_cell(self.next_start(cell))
 
     def clear(self, end):
-        """Clears from the cursor up to the end: everything with format off, unprotected characters with format on."""
+        """Clears from the cursor up to the end: everything with format off; with format on the unprotected cells,
+        which keep their marks and lose their enhancements, the blank ones too."""
         for cell in range(self.cursor(), end):
             if not self.format:
                 self.chars[cell] = 32
                 self.attrs[cell] = 0
             elif self.unprotected_at(cell):
                 self.chars[cell] = 32
+                self.attrs[cell] -= self.attrs[cell] // 16 * 16
 
     def clear_display(self):
         self.clear(CELLS)

@@ -1,23 +1,43 @@
--- All of the cases hold: the checker computes them. Assumes nothing.
-use mathlib.Core.Path.{refl}
-use Rattle.cells.specs.Search.{firstOf, lastOf, allOf, countOf, nthOf, firstIn, lastIn, countIn}
-use Rattle.cells.specs.Memory.{patchFrom, patch, filled, shiftedRight, shiftedLeft, filledWhereFrom, filledWhere, movedUp, movedDown, written, posted}
-use Rattle.cursor.specs.Cursor.{gone, atCell, goneUp, goneDown, goneLeft, goneRight, inColumn, homeAt, risen, fallen, isPlaced}
-use Rattle.cursor.specs.Addressing.{aimed, heldTo, toColumn, toRow, toWindowRow}
-use Rattle.cursor.specs.Stops.{tabbed, backTabbed}
-use Rattle.fields.specs.Fields.{marks, isIn, fieldEnd, kindAt, unprotected, firstStart, nextStart, prevStart, nthField, fieldNumber, holds, target, lettersTake, digitsTake, allowed, rowUnderText}
-use Rattle.reading.specs.Reading.{actionOf, unbegun, settled, counted, nextReading, soundNumber}
-use Rattle.screen.specs.Edits.{scrolled, lineFed, homed, homedDown, goneFound, tabbedIn, backTabbedIn, put, onward, typedFree, cellAfter, typedAt, typedIn, typed, displayCleared, lineCleared, charDeleted, rowInserted, rowDeleted, markSet, markTurned, enhanced}
-use Rattle.replies.specs.Replies.{digits, cursorReply, statusReply, fieldText, joined, fieldsReply, rowReply, blockReply}
-use Rattle.terminal.specs.State.{freshWorld, isGood, isSized, barred}
-use Rattle.terminal.specs.Acts.{switched, tabbedBy, backTabbedBy, steered, stamps, stamped, acted}
-use Rattle.terminal.specs.Refusals.{firstRefusal}
-use Rattle.key.specs.Keys.{keyAction, disallows, keyRefusal, keyDone, keyed}
-use Rattle.post.specs.Posts.{fits, allFit, tooLong, misfits, postRefusal, postedAt, postedTo}
-use Rattle.host.specs.Streams.{actionFor, readOn, steppedBy, stepped, pendingReply, replyTo, answerTo, fedOn, hostRefusal, fed}
-use Rattle.cases.specs.Cases.{same, sameStops, sameState, sameMemory, sameWorld, standsAt, start, room, after, gives, types, takes, refuses, cases, failing, CasesHold}
+-- All of the cases hold: the checker computes them, part by part. Assumes nothing.
+use Prim.Native.Nat.{ℕ, _+_}
+use mathlib.Core.Path.{_≡_, refl}
+use mathlib.Core.Bool.{Bool, true, false}
+use mathlib.Core.List.{List, [], _∷_, _++_}
+use native.Mathlib.Omega.{arith}
+use Rattle.cases.proofs.Rules.{rules}
+use Rattle.cases.specs.Cases.{same, sameStops, sameState, sameMemory, sameWorld, standsAt, start, room, after, gives, types, takes, refuses, laid, holdsOnly, clears, documentCases, weightCases, clearCases, cases, failing, CasesHold}
 
--- no case fails on 48 rows
+-- that no case of a list fails does not turn on the number of its first; and where none fails of two lists, none fails of both
+failing-from : (bs : List Bool) (i j : ℕ) → failing i bs ≡ [] → failing j bs ≡ []
+unfolding failing
+failing-from [] i j e = refl
+failing-from (true ∷ bs) i j e = failing-from bs (i + 1) (j + 1) e
+failing-from (false ∷ bs) i j e = let z : _≡_ {A = ℕ} 0 1 = cc in absurd (omega arith)
+
+failing-both : (bs cs : List Bool) (i : ℕ) → failing i bs ≡ [] → failing 0 cs ≡ [] → failing i (bs ++ cs) ≡ []
+unfolding failing
+failing-both [] cs i e f = failing-from cs 0 i f
+failing-both (true ∷ bs) cs i e f = failing-both bs cs (i + 1) e f
+failing-both (false ∷ bs) cs i e f = let z : _≡_ {A = ℕ} 0 1 = cc in absurd (omega arith)
+
+-- what the cases compute with
+unfoldable comparing : ℕ
+unfolding rules same sameStops sameState sameMemory sameWorld standsAt start room after gives types takes refuses laid holdsOnly clears failing
+comparing = 0
+
+-- on 48 rows
+document-hold : failing 0 (documentCases 48) ≡ []
+unfolding comparing documentCases
+document-hold = refl
+
+weights-hold : failing 0 (weightCases 48) ≡ []
+unfolding comparing weightCases
+weights-hold = refl
+
+clears-hold : failing 0 (clearCases 48) ≡ []
+unfolding comparing clearCases
+clears-hold = refl
+
 pub cases-hold : CasesHold 48
-unfolding firstOf lastOf allOf countOf nthOf firstIn lastIn countIn patchFrom patch filled shiftedRight shiftedLeft filledWhereFrom filledWhere movedUp movedDown written posted gone atCell goneUp goneDown goneLeft goneRight inColumn homeAt risen fallen isPlaced aimed heldTo toColumn toRow toWindowRow tabbed backTabbed marks isIn fieldEnd kindAt unprotected firstStart nextStart prevStart nthField fieldNumber holds target lettersTake digitsTake allowed rowUnderText actionOf unbegun settled counted nextReading soundNumber scrolled lineFed homed homedDown goneFound tabbedIn backTabbedIn put onward typedFree cellAfter typedAt typedIn typed displayCleared lineCleared charDeleted rowInserted rowDeleted markSet markTurned enhanced digits cursorReply statusReply fieldText joined fieldsReply rowReply blockReply freshWorld isGood isSized barred switched tabbedBy backTabbedBy steered stamps stamped acted keyAction firstRefusal disallows keyRefusal keyDone keyed fits allFit tooLong misfits postRefusal postedAt postedTo actionFor readOn steppedBy stepped pendingReply replyTo answerTo fedOn hostRefusal fed same sameStops sameState sameMemory sameWorld standsAt start room after gives types takes refuses cases failing
-cases-hold = refl
+unfolding cases
+cases-hold = failing-both (documentCases 48) (weightCases 48 ++ clearCases 48) 0 document-hold (failing-both (weightCases 48) (clearCases 48) 0 weights-hold clears-hold)

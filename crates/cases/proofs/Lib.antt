@@ -1,2 +1,3 @@
--- The cases, computed.
+-- The rules to compute with, and the cases, computed.
+pub mod Rules
 pub mod Computed

@@ -1,4 +1,4 @@
--- Document 01, 'Cases to prove as a single statement over one list', and weights in a digits field, on a fresh memory of `rows` rows. Each case compares
+-- Document 01, 'Cases to prove as a single statement over one list', weights in a digits field, and clears in inverse video, on a fresh memory of `rows` rows. Each case compares
 -- everything that its sentence names, and the whole memory where nothing or only a stretch changes. Assumes nothing.
 use Prim.Native.Nat.{ℕ, _+_, _-_, _*_, _/_, _%_}
 use mathlib.Core.Path.{_≡_}
@@ -112,9 +112,42 @@ refuses rows form v =
     let h = fed rows w (v ∷ []) (room rows) in
     eqb (p .number) 6 && sameWorld (p .world) w && eqb (k .number) 6 && sameWorld (k .world) w && gives rows 0 1 [] h && sameWorld (h .world) w
 
--- ---- the cases, in the document's order, then the weights
-unfoldable pub cases : ℕ → List Bool
-cases rows =
+-- ---- clears in inverse video, enhancement 2, in the last row from column 70 on
+
+-- ESC & a, the last row, r 7, the column less 70, C
+abbrev pub inLastRow : ℕ → ℕ → List ℕ
+inLastRow rows col = 27 ∷ 38 ∷ 97 ∷ (48 + (rows - 1) / 10) ∷ (48 + (rows - 1) % 10) ∷ 114 ∷ 55 ∷ (48 + col) ∷ 67 ∷ []
+
+-- ESC & d B, then the character: it stands in inverse video
+abbrev pub inverse : ℕ → List ℕ
+inverse v = 27 ∷ 38 ∷ 100 ∷ 66 ∷ v ∷ []
+
+-- a field with ABC, a label N and a field of two blanks, all in inverse video
+abbrev pub inverseForm : ℕ → List ℕ
+inverseForm rows =
+    inLastRow rows 0 ++ (27 ∷ 91 ∷ []) ++ inverse 65 ++ inverse 66 ++ inverse 67 ++ (27 ∷ 93 ∷ 32 ∷ [])
+    ++ inverse 78 ++ (27 ∷ 91 ∷ []) ++ inverse 32 ++ inverse 32 ++ (27 ∷ 93 ∷ [])
+
+-- a memory of v with these cells there
+unfoldable pub laid : ℕ → ℕ → List ℕ → List ℕ
+laid rows v xs = replicate (rows * 80 - 10) v ++ (xs ++ replicate (10 - length xs) v)
+
+-- the memory holds these characters and attributes there, and nothing else
+unfoldable pub holdsOnly : ℕ → List ℕ → List ℕ → World → Bool
+holdsOnly rows chars attrs w = same (w .chars) (laid rows 32 chars) && same (w .attrs) (laid rows 0 attrs)
+
+-- from w and these host bytes on, ESC with the letter and the key both leave this alone in the memory, and the state stays
+unfoldable pub clears : ℕ → World → List ℕ → ℕ → ℕ → List ℕ → List ℕ → Bool
+clears rows w bytes letter code chars attrs =
+    let v = fed rows w bytes (room rows) .world in
+    let h = fed rows v (27 ∷ letter ∷ []) (room rows) in
+    let k = keyed rows v (room rows) code in
+    gives rows 0 2 [] h && sameState (h .world .state) (v .state) && holdsOnly rows chars attrs (h .world)
+    && eqb (k .number) 0 && sameWorld (k .world) (h .world)
+
+-- ---- the cases, in the document's order
+unfoldable pub documentCases : ℕ → List Bool
+documentCases rows =
     -- empty stream: nothing taken, nothing written, nothing changed
     (let h = fed rows (start rows) [] (room rows) in gives rows 0 0 [] h && sameWorld (h .world) (start rows))
     -- absolute cursor at row 5, column 12: 1B 26 61 30 31 32 63 30 30 35 52 0D; the memory is unchanged and nothing is pending any more
@@ -153,8 +186,13 @@ cases rows =
     eqb (e .number) 0 && eqb (e .written) 1 && same (e .reply) (18 ∷ drop 1 (room rows)) && eqb (x .number) 4 && eqb (x .written) 0 && sameWorld (x .world) (e .world))
     -- block with format on and no field: one byte, 30
     ∷ (let h = fed rows (start rows) (27 ∷ 87 ∷ 27 ∷ 100 ∷ 17 ∷ []) (room rows) in gives rows 0 5 (30 ∷ []) h && sameMemory (h .world) (start rows))
+    ∷ []
+
+-- ---- weights
+unfoldable pub weightCases : ℕ → List Bool
+weightCases rows =
     -- a digits field takes the weights `-12,5` and `+12.5`
-    ∷ takes rows digitsForm (45 ∷ 49 ∷ 50 ∷ 44 ∷ 53 ∷ [])
+    takes rows digitsForm (45 ∷ 49 ∷ 50 ∷ 44 ∷ 53 ∷ [])
     ∷ takes rows digitsForm (43 ∷ 49 ∷ 50 ∷ 46 ∷ 53 ∷ [])
     -- it refuses `A`, and the neighbours of the signs and of the digits, `*`, `/` and `:`
     ∷ refuses rows digitsForm 65
@@ -165,6 +203,29 @@ cases rows =
     ∷ takes rows lettersForm (65 ∷ 90 ∷ 32 ∷ 97 ∷ 122 ∷ [])
     ∷ refuses rows lettersForm 44
     ∷ []
+
+-- ---- clears
+unfoldable pub clearCases : ℕ → List Bool
+clearCases rows =
+    let form = after rows (inverseForm rows) in
+    -- the form in inverse video: marks 1 and 5 and enhancement 2, as 16 × enhancement + mark
+    holdsOnly rows (65 ∷ 66 ∷ 67 ∷ 32 ∷ 78 ∷ []) (33 ∷ 32 ∷ 32 ∷ 5 ∷ 32 ∷ 33 ∷ 32 ∷ 5 ∷ []) form
+    -- clear display in the middle of a field, format on: from the cursor on fields are blank without it, those that were blank too, and keep their marks; the part of the
+    -- field before the cursor keeps it, and so does the label
+    ∷ clears rows form (27 ∷ 87 ∷ inLastRow rows 1) 74 264 (65 ∷ 32 ∷ 32 ∷ 32 ∷ 78 ∷ []) (33 ∷ 0 ∷ 0 ∷ 5 ∷ 32 ∷ 1 ∷ 0 ∷ 5 ∷ [])
+    -- clear line there: to the field's end, and the other field keeps it
+    ∷ clears rows form (27 ∷ 87 ∷ inLastRow rows 1) 75 265 (65 ∷ 32 ∷ 32 ∷ 32 ∷ 78 ∷ []) (33 ∷ 0 ∷ 0 ∷ 5 ∷ 32 ∷ 33 ∷ 32 ∷ 5 ∷ [])
+    -- at the field's start its mark stays
+    ∷ clears rows form (27 ∷ 87 ∷ inLastRow rows 0) 75 265 (32 ∷ 32 ∷ 32 ∷ 32 ∷ 78 ∷ []) (1 ∷ 0 ∷ 0 ∷ 5 ∷ 32 ∷ 33 ∷ 32 ∷ 5 ∷ [])
+    -- on the label clear line does nothing
+    ∷ clears rows form (27 ∷ 87 ∷ inLastRow rows 4) 75 265 (65 ∷ 66 ∷ 67 ∷ 32 ∷ 78 ∷ []) (33 ∷ 32 ∷ 32 ∷ 5 ∷ 32 ∷ 33 ∷ 32 ∷ 5 ∷ [])
+    -- format off, clear display: from the cursor on marks and the label go too
+    ∷ clears rows form (inLastRow rows 1) 74 264 (65 ∷ []) (33 ∷ [])
+    ∷ []
+
+-- ---- all of them, in one list
+unfoldable pub cases : ℕ → List Bool
+cases rows = documentCases rows ++ (weightCases rows ++ clearCases rows)
 
 -- the places of the cases that fail
 unfoldable pub failing : ℕ → List Bool → List ℕ

@@ -1,7 +1,7 @@
--- `patch` and `filledWhere` cell by cell, and the invariant `Cells` of a loop that writes in place, with its steps. Assumes nothing.
+-- `patch` and `changedWhere` cell by cell, and the invariant `Cells` of a loop that writes in place, with its steps. Assumes nothing.
 use mathlib.Core.Path.{_≡_, refl, sym, ap, _∙_}
 use mathlib.Core.Logic.{_⊎_, inl, inr, ⊎-elim}
-use mathlib.Core.Bool.{Bool, true, false, cond, _&&_, and-false}
+use mathlib.Core.Bool.{Bool, true, false, cond, _&&_, and-false, and-eq-true-iff}
 use mathlib.Core.List.{List, [], _∷_}
 use Prim.Native.Nat.{ℕ, zero, suc, _+_, _≤_, _<_}
 use native.Mathlib.Nat.{le-of-suc-le-suc, not-suc-le-zero}
@@ -9,9 +9,9 @@ use native.Mathlib.Omega.{arith}
 use native.Mathlib.Decide.{decLt, ℕ-discrete}
 use lib.ListN.{length, getD, set, length-set, List·getD-eq-default}
 use lib.Seq.{ext-getD, getD-set-same, getD-set-other}
-use lib.Dec.{leb}
-use borrow.Author.Tests.{lt-ltb, le-ltb, le-leb, lt-leb}
-use Rattle.cells.specs.Memory.{inside, patchFrom, patch, filledWhereFrom, filledWhere}
+use lib.Dec.{leb, ltb}
+use borrow.Author.Tests.{lt-ltb, le-ltb, le-leb, lt-leb, leb-true}
+use Rattle.cells.specs.Memory.{inside, patchFrom, patch, changedWhereFrom, changedWhere}
 
 -- ---- cases on two numbers
 pub lt-or : (a b : ℕ) → (a < b) ⊎ (b ≤ a)
@@ -39,16 +39,16 @@ getD-patchFrom k [] lo hi f j n e h = absurd (not-suc-le-zero h)
 getD-patchFrom k (x ∷ xs) lo hi f zero n e h = let q : k ≡ n = omega arith in ap (λ (i : ℕ). cond (inside lo hi i) (f i) x) q
 getD-patchFrom k (x ∷ xs) lo hi f (suc j) n e h = getD-patchFrom (suc k) xs lo hi f j n (omega arith) (le-of-suc-le-suc h)
 
-length-filledWhereFrom : (k : ℕ) (xs : List ℕ) (from : ℕ) (test : ℕ → Bool) (v : ℕ) → length (filledWhereFrom k xs from test v) ≡ length xs
-unfolding filledWhereFrom
-length-filledWhereFrom k [] from test v = refl
-length-filledWhereFrom k (x ∷ xs) from test v = ap suc (length-filledWhereFrom (suc k) xs from test v)
+length-changedWhereFrom : (k : ℕ) (xs : List ℕ) (from : ℕ) (test : ℕ → Bool) (f : ℕ → ℕ) → length (changedWhereFrom k xs from test f) ≡ length xs
+unfolding changedWhereFrom
+length-changedWhereFrom k [] from test f = refl
+length-changedWhereFrom k (x ∷ xs) from test f = ap suc (length-changedWhereFrom (suc k) xs from test f)
 
-getD-filledWhereFrom : (k : ℕ) (xs : List ℕ) (from : ℕ) (test : ℕ → Bool) (v j n : ℕ) → n ≡ k + j → j < length xs → getD (filledWhereFrom k xs from test v) j 0 ≡ cond (leb from n && test n) v (getD xs j 0)
-unfolding filledWhereFrom
-getD-filledWhereFrom k [] from test v j n e h = absurd (not-suc-le-zero h)
-getD-filledWhereFrom k (x ∷ xs) from test v zero n e h = let q : k ≡ n = omega arith in ap (λ (i : ℕ). cond (leb from i && test i) v x) q
-getD-filledWhereFrom k (x ∷ xs) from test v (suc j) n e h = getD-filledWhereFrom (suc k) xs from test v j n (omega arith) (le-of-suc-le-suc h)
+getD-changedWhereFrom : (k : ℕ) (xs : List ℕ) (from : ℕ) (test : ℕ → Bool) (f : ℕ → ℕ) (j n : ℕ) → n ≡ k + j → j < length xs → getD (changedWhereFrom k xs from test f) j 0 ≡ cond (leb from n && test n) (f (getD xs j 0)) (getD xs j 0)
+unfolding changedWhereFrom
+getD-changedWhereFrom k [] from test f j n e h = absurd (not-suc-le-zero h)
+getD-changedWhereFrom k (x ∷ xs) from test f zero n e h = let q : k ≡ n = omega arith in ap (λ (i : ℕ). cond (leb from i && test i) (f x) x) q
+getD-changedWhereFrom k (x ∷ xs) from test f (suc j) n e h = getD-changedWhereFrom (suc k) xs from test f j n (omega arith) (le-of-suc-le-suc h)
 
 -- ---- the length of a patch, and each of its cells
 module _ (xs : List ℕ) (lo hi : ℕ) (f : ℕ → ℕ) where
@@ -94,6 +94,10 @@ up {xs} {ys} {lo} {i} {j} {f} {v} c a b e n =
       new = λ k h l. elim (eq-or k i) [ inl q ↦ rw q (getD-set-same ys i v 0 m ∙ e) | inr q ↦ getD-set-other ys i k v 0 q ∙ c .new k h (omega arith) ];
       high = λ k h. getD-set-other ys i k v 0 (omega arith) ∙ c .high k (omega arith);
     }
+
+-- the same where a callee has stored
+pub stored : {xs ys zs : List ℕ} {lo i j : ℕ} {f : ℕ → ℕ} {v : ℕ} → zs ≡ set ys i v → Cells xs ys lo i f → lo ≤ i → i < length xs → v ≡ f i → j ≡ i + 1 → Cells xs zs lo j f
+stored q c a b e n = rw q (up c a b e n)
 
 -- a turn of a loop that goes down: one cell more at the start
 pub down : {xs ys : List ℕ} {i j hi : ℕ} {f : ℕ → ℕ} {v : ℕ} → Cells xs ys j hi f → i < hi → i < length xs → v ≡ f i → j ≡ i + 1 → Cells xs (set ys i v) i hi f
@@ -164,29 +168,42 @@ join-down {b = b} c d p q s =
       high = λ k h. d .high k (omega arith) ∙ c .high k h;
     }
 
--- ---- cells that pass a test are filled: the length, each cell, the same as a patch, and what a loop that fills them ends with
-module _ (xs : List ℕ) (from : ℕ) (test : ℕ → Bool) (v : ℕ) where
-  pub length-filledWhere : length (filledWhere xs from test v) ≡ length xs
-  unfolding filledWhere
-  length-filledWhere = length-filledWhereFrom 0 xs from test v
+-- ---- cells that pass a test are changed: the length, each cell, and what a loop that changes them ends with, along the memory or up to a cell
+module _ (xs : List ℕ) (from : ℕ) (test : ℕ → Bool) (f : ℕ → ℕ) where
+  pub length-changedWhere : length (changedWhere xs from test f) ≡ length xs
+  unfolding changedWhere
+  length-changedWhere = length-changedWhereFrom 0 xs from test f
 
-  pub filledWhere-cell : (k : ℕ) → k < length xs → getD (filledWhere xs from test v) k 0 ≡ cond (leb from k && test k) v (getD xs k 0)
-  unfolding filledWhere
-  filledWhere-cell k l = getD-filledWhereFrom 0 xs from test v k k (omega arith) l
+  pub changedWhere-cell : (k : ℕ) → k < length xs → getD (changedWhere xs from test f) k 0 ≡ cond (leb from k && test k) (f (getD xs k 0)) (getD xs k 0)
+  unfolding changedWhere
+  changedWhere-cell k l = getD-changedWhereFrom 0 xs from test f k k (omega arith) l
 
-  pub filledWhere-patch : filledWhere xs from test v ≡ patch xs from (length xs) (λ k. cond (test k) v (getD xs k 0))
-  filledWhere-patch =
-      ext-getD 0 (filledWhere xs from test v) (patch xs from (length xs) (λ k. cond (test k) v (getD xs k 0))) (length-filledWhere ∙ sym (length-patch xs from (length xs) (λ k. cond (test k) v (getD xs k 0))))
-      (λ k l.
-      let m : k < length xs = omega (arith, length-filledWhere) in
-      elim (lt-or k from) [
-        | inl u ↦ (
-            let e : getD (filledWhere xs from test v) k 0 ≡ getD xs k 0 = filledWhere-cell k m ∙ simp (lt-leb from k u) in
-            e ∙ sym (patch-out xs from (length xs) _ (omega arith) k (inl u)))
-        | inr u ↦ (
-            let e : getD (filledWhere xs from test v) k 0 ≡ cond (test k) v (getD xs k 0) = filledWhere-cell k m ∙ simp (le-leb from k u) in
-            e ∙ sym (patch-cell xs from (length xs) _ (omega arith) k ∙ simp (inside-true from (length xs) k u m)))
-      ])
+  -- each cell stays, or is one from `from` on that passes, and is changed
+  pub changedWhere-either : (k : ℕ) → (getD (changedWhere xs from test f) k 0 ≡ getD xs k 0) ⊎ ((from ≤ k) × (test k ≡ true) × (getD (changedWhere xs from test f) k 0 ≡ f (getD xs k 0)))
+  changedWhere-either k = elim (lt-or k (length xs)) [
+    | inl l ↦ go l (leb from k && test k) refl
+    | inr l ↦ inl (List·getD-eq-default (changedWhere xs from test f) 0 (rw length-changedWhere l) ∙ sym (List·getD-eq-default xs 0 l))
+  ]
+    where
+      go : k < length xs → (b : Bool) → (leb from k && test k) ≡ b → (getD (changedWhere xs from test f) k 0 ≡ getD xs k 0) ⊎ ((from ≤ k) × (test k ≡ true) × (getD (changedWhere xs from test f) k 0 ≡ f (getD xs k 0)))
+      go l true t =
+          let b = and-eq-true-iff (leb from k) (test k) .0 t in
+          inr (leb-true from k (b .0), b .1, changedWhere-cell k l ∙ ap (λ (c : Bool). cond c (f (getD xs k 0)) (getD xs k 0)) t)
+      go l false t = inl (changedWhere-cell k l ∙ ap (λ (c : Bool). cond c (f (getD xs k 0)) (getD xs k 0)) t)
 
-pub done-where : {xs ys : List ℕ} {from to : ℕ} (test : ℕ → Bool) (v : ℕ) → Cells xs ys from to (λ k. cond (test k) v (getD xs k 0)) → to ≡ length xs → ys ≡ filledWhere xs from test v
-done-where {xs} {from = from} test v c e = done c refl e ∙ sym (filledWhere-patch xs from test v)
+-- what a choice in a range gives, inside its end
+in-range : (lo t u : Bool) (x y : ℕ) → u ≡ true → cond (lo && u) (cond t x y) y ≡ cond (lo && t) x y
+in-range true t u x y e = rw e refl
+in-range false t u x y e = refl
+
+pub done-where : {xs ys : List ℕ} {from to : ℕ} (test : ℕ → Bool) (f : ℕ → ℕ) → Cells xs ys from to (λ k. cond (test k) (f (getD xs k 0)) (getD xs k 0)) → to ≡ length xs → ys ≡ changedWhere xs from test f
+done-where {xs} {ys} {from} {to} test f c e =
+    ext-getD 0 ys (changedWhere xs from test f) (c .len ∙ sym (length-changedWhere xs from test f))
+    (λ k l.
+    let m : k < length xs = omega (arith, c .len) in
+    cells-at c k ∙ in-range (leb from k) (test k) (ltb k to) (f (getD xs k 0)) (getD xs k 0) (lt-ltb k to (omega arith)) ∙ sym (changedWhere-cell xs from test f k m))
+
+pub done-upto : {xs ys : List ℕ} {from i to : ℕ} (f : ℕ → ℕ) → Cells xs ys from i (λ k. f (getD xs k 0)) → i ≡ to → ys ≡ changedWhere xs from (λ k. ltb k to) f
+done-upto {xs} {ys} {from} {i} {to} f c e =
+    ext-getD 0 ys (changedWhere xs from (λ k. ltb k to) f) (c .len ∙ sym (length-changedWhere xs from (λ k. ltb k to) f))
+    (λ k l. rw e at (cells-at c k) ∙ sym (changedWhere-cell xs from (λ k. ltb k to) f k (omega (arith, c .len))))

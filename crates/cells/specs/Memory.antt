@@ -29,13 +29,13 @@ shiftedRight xs from to v = patch xs from to (λ k. cond (eqb k from) v (getD xs
 unfoldable pub shiftedLeft : List ℕ → ℕ → ℕ → ℕ → List ℕ
 shiftedLeft xs from to v = patch xs from to (λ k. cond (eqb (k + 1) to) v (getD xs (k + 1) 0))
 
--- the cells from `from` on whose number passes the test become v; from cell k on, and whole
-unfoldable pub filledWhereFrom : ℕ → List ℕ → ℕ → (ℕ → Bool) → ℕ → List ℕ
-filledWhereFrom k [] from test v = []
-filledWhereFrom k (x ∷ xs) from test v = cond (leb from k && test k) v x ∷ filledWhereFrom (suc k) xs from test v
+-- each cell from `from` on whose number passes the test is changed by f; from cell k on, and whole
+unfoldable pub changedWhereFrom : ℕ → List ℕ → ℕ → (ℕ → Bool) → (ℕ → ℕ) → List ℕ
+changedWhereFrom k [] from test f = []
+changedWhereFrom k (x ∷ xs) from test f = cond (leb from k && test k) (f x) x ∷ changedWhereFrom (suc k) xs from test f
 
-unfoldable pub filledWhere : List ℕ → ℕ → (ℕ → Bool) → ℕ → List ℕ
-filledWhere xs from test v = filledWhereFrom 0 xs from test v
+unfoldable pub changedWhere : List ℕ → ℕ → (ℕ → Bool) → (ℕ → ℕ) → List ℕ
+changedWhere xs from test f = changedWhereFrom 0 xs from test f
 
 -- rows of 80 cells: the row that begins at cell `from` goes, the rows below it move up, and the last becomes v
 unfoldable pub movedUp : List ℕ → ℕ → ℕ → List ℕ

@@ -17,6 +17,10 @@ markOf a = a % 16
 unfoldable pub marks : List ℕ → List ℕ
 marks attrs = map markOf attrs
 
+-- clearing with format on leaves of an attribute byte its mark, with enhancement 0
+abbrev pub stripped : ℕ → ℕ
+stripped a = markOf a
+
 -- a mark of 1 to highest: 1 to 3 start an unprotected field, 4 a transmit-only field, 5 ends a field; 0 and 6 to 15 are no mark
 unfoldable pub isIn : ℕ → ℕ → Bool
 isIn highest mark = within 1 highest mark

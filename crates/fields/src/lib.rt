@@ -3,7 +3,6 @@ ghost use mathlib.Core.Path.{_≡_};
 ghost use Prim.Native.Nat.{_+_, _*_, _/_, _≤_, _<_};
 ghost use lib.ListN.{length};
 ghost use Rattle.cells.specs.Search.{firstIn, lastIn};
-ghost use Rattle.cells.specs.Memory.{filledWhere};
 ghost use Rattle.fields.specs.Walk.{kindAfter};
 ghost use Rattle.fields.specs.Fields.{markOf, marks, isIn, kindAt, unprotected, fieldEnd, firstStart, nextStart, prevStart, nthField, target, allowed, nonBlank, rowUnderText};
 use cells::Found;
@@ -232,20 +231,4 @@ pub fn last_text(chars: &[u8], from: usize, to: usize) -> Found
         }
     }
     Found::Nothing
-}
-
-// The unprotected cells from `from` on become `v`.
-pub fn fill_unprotected(s: &mut [u8], attrs: &[u8], from: usize, v: u8)
-    requires { ⌜ (from < length (now s)) × (length (now attrs) ≡ length (now s)) ⌝ }
-    ensures { λ _. ⌜ now (s .exit) ≡ filledWhere (now (s .entry)) from (unprotected (marks (now (attrs .entry)))) v ⌝ }
-{
-    let mut kind = kind_at(attrs, from);
-    let mut i = from;
-    while i < s.len() {
-        kind = kind_after(i, kind, attrs[i] % 16);
-        if is_in(3, kind) {
-            s[i] = v;
-        }
-        i += 1;
-    }
 }

@@ -13,7 +13,7 @@ pub fn print(out: Output, page: &mut Page, t: Terminal) -> Output {
     printing::text(
         out,
         page,
-        b"fields: a any character, l letters, d digits, t transmit-only; _ is a blank of an unprotected field, ? no printable character\n\n",
+        b"fields: a any character, l letters, d digits, t transmit-only; _ is a blank of an unprotected field, ? no printable character\nenhancements: A to O, the letter that sets each; B is inverse video\n\n",
     )
 }
 

@@ -1,4 +1,4 @@
-// The terminal as a picture in text: the state in words, then the rows with their fields, the cursor and the window.
+// The terminal as a picture in text: the state in words, then the rows with their fields and enhancements, the cursor and the window.
 use cursor::Cursor;
 use printing::Output;
 use printing::Page;
@@ -75,7 +75,7 @@ fn cell_of(row: usize, col: usize) -> usize {
     row % 48 * 80 + col % 80
 }
 
-// The row's number, behind `>` where the window shows it, its cells, the letters of its fields, and `^` under the cursor.
+// The row's number, behind `>` where the window shows it, its cells, the letters of its fields and of its enhancements, and `^` under the cursor.
 fn print_row(
     out: Output,
     page: &mut Page,
@@ -86,7 +86,8 @@ fn print_row(
 ) -> Output {
     let out = print_number(out, page, row, is_shown(row, cursor.top));
     let out = print_cells(out, page, row, chars, attrs);
-    let out = print_letters(out, page, row, attrs);
+    let out = print_letters(out, page, row, attrs, false);
+    let out = print_letters(out, page, row, attrs, true);
     print_pointer(out, page, row, cursor)
 }
 
@@ -114,12 +115,18 @@ fn print_cells(out: Output, page: &mut Page, row: usize, chars: &[u8], attrs: &[
     print_line(out, page, b"  |", &line, b"|\n")
 }
 
-// The letters of the row's fields, where it has one.
-fn print_letters(out: Output, page: &mut Page, row: usize, attrs: &[u8]) -> Output {
+// The letters of the row's fields, or those of its enhancements, where it has any.
+fn print_letters(
+    out: Output,
+    page: &mut Page,
+    row: usize,
+    attrs: &[u8],
+    of_enhancements: bool,
+) -> Output {
     let mut line = [32u8; 80];
     let mut some = false;
     for col in 0..80 {
-        let letter = letter_of(row, col, attrs);
+        let letter = letter_of(row, col, attrs, of_enhancements);
         line[col] = letter;
         if letter != 32 {
             some = true;
@@ -177,18 +184,32 @@ fn face(v: u8, is_unprotected: bool) -> u8 {
     b'?'
 }
 
-// The letter of the field that holds a cell, or a blank.
-fn letter_of(row: usize, col: usize, attrs: &[u8]) -> u8 {
+// The letter of a cell's field or of its enhancement, a blank where it has none.
+fn letter_of(row: usize, col: usize, attrs: &[u8], of_enhancements: bool) -> u8 {
     let cell = cell_of(row, col);
     if cell < attrs.len() {
-        let kind = fields::kind_at(attrs, cell);
-        return match kind {
-            1 => b'a',
-            2 => b'l',
-            3 => b'd',
-            4 => b't',
-            _ => b' ',
-        };
+        if of_enhancements {
+            return enhancement_letter(attrs[cell]);
+        }
+        return kind_letter(fields::kind_at(attrs, cell));
     }
     b' '
+}
+
+fn kind_letter(kind: u8) -> u8 {
+    match kind {
+        1 => b'a',
+        2 => b'l',
+        3 => b'd',
+        4 => b't',
+        _ => b' ',
+    }
+}
+
+// A to O, the letter that the host sets the enhancement with.
+fn enhancement_letter(a: u8) -> u8 {
+    if a < 16 {
+        return b' ';
+    }
+    64 + a / 16
 }

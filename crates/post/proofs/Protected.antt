@@ -1,4 +1,4 @@
--- A post changes characters in the field that it names alone, so none of a protected cell. Assumes nothing.
+-- A post changes characters in the field that it names alone, so no protected cell. Assumes nothing.
 use Prim.Native.Nat.{ℕ, _≤_}
 use mathlib.Core.Logic.{inl, inr}
 use mathlib.Core.Path.{_≡_, refl}
@@ -12,10 +12,11 @@ use Rattle.fields.specs.Fields.{marks, fieldEnd, holds}
 use Rattle.fields.proofs.Fields.{field-ends}
 use Rattle.fields.proofs.Starts.{nth-open}
 use Rattle.fields.proofs.Numbers.{holds-unprotected, field-holds}
-use Rattle.screen.proofs.Frame.{Only, Rest, only-none, only-more, protected-kept, rest-out, end-fits}
+use Rattle.screen.proofs.Frame.{Only, Rest, only-chars, only-none, only-more, rest-out, end-fits}
 use Rattle.terminal.specs.State.{World, world, pageOf}
 use Rattle.terminal.specs.Protected.{Protects}
 use Rattle.terminal.proofs.Kept.{whole}
+use Rattle.terminal.proofs.Protected.{only-protects}
 use Rattle.post.specs.Posts.{postedAt, postedTo}
 use Rattle.post.proofs.Kept.{done, PostReady, post-ready, post-refused}
 
@@ -34,16 +35,15 @@ module _ {rows : ℕ} {w : World} {n : ℕ} {text : List ℕ} (r : PostReady row
       let order : k ≤ fieldEnd ms k = omega (arith, field-ends ms k .past) in
       let fits = end-fits p k (o .isOpen) in
       only-more {P = Rest ms k} (λ j i. field-holds ms n k j (r .found) (i .from) (i .upto))
+      (only-chars
       (record {
-        attrs-stay = refl;
-        chars-stay = record {
-          len = length-posted (w .chars) k (fieldEnd ms k) text order fits (r .short);
-          cell = λ j out. posted-out (w .chars) k (fieldEnd ms k) text order fits (r .short) j (rest-out ms k j out);
-        };
+        len = length-posted (w .chars) k (fieldEnd ms k) text order fits (r .short);
+        cell = λ j out. posted-out (w .chars) k (fieldEnd ms k) text order fits (r .short) j (rest-out ms k j out);
       })
+      refl)
 
 module _ (rows : ℕ) (w : World) (n : ℕ) (text : List ℕ) (few : rows ≤ 96) where
-  -- the attributes stay, and so do the characters outside the field
+  -- what stands outside the field stays
   pub posted-only : Only (Held w n) (pageOf w) (pageOf (postedTo rows w n text .world))
   posted-only = elim (eq-or (postedTo rows w n text .number) 0) [
     | inl z ↦ (
@@ -53,7 +53,6 @@ module _ (rows : ℕ) (w : World) (n : ℕ) (text : List ℕ) (few : rows ≤ 96
     | inr z ↦ rw (post-refused rows w n text z) (only-none refl refl)
   ]
 
-  -- so no protected cell changes its character
+  -- so no protected cell changes
   pub posted-protects : Protects w (postedTo rows w n text .world)
-  posted-protects =
-      record { attrs-stay = posted-only .attrs-stay; chars-stay = protected-kept (only-more (holds-unprotected (marks (w .attrs)) n) posted-only) }
+  posted-protects = only-protects w (postedTo rows w n text .world) (only-more (holds-unprotected (marks (w .attrs)) n) posted-only)

@@ -7,25 +7,16 @@ use Prim.Native.Nat.{ℕ}
 use native.Mathlib.Omega.{arith}
 use lib.ListN.{getD}
 use borrow.Author.Tests.{eqb-false}
-use Rattle.cells.specs.Search.{firstOf, lastOf, countOf, nthOf, firstIn, lastIn, countIn}
-use Rattle.cells.specs.Memory.{patchFrom, patch, filled, shiftedRight, shiftedLeft, filledWhereFrom, filledWhere, written, posted}
 use Rattle.cursor.specs.declared.Cursor.{Cursor}
-use Rattle.cursor.specs.Cursor.{gone, atCell, goneUp, goneDown, goneLeft, goneRight, inColumn, homeAt, risen, fallen, isPlaced}
-use Rattle.cursor.specs.Addressing.{aimed, heldTo, toColumn, toRow}
-use Rattle.fields.specs.Fields.{marks, isIn, fieldEnd, kindAt, unprotected, firstStart, nextStart, prevStart, nthField, fieldNumber, holds, target, lettersTake, digitsTake, allowed, rowUnderText}
-use Rattle.reading.specs.Reading.{actionOf, unbegun, settled, counted, nextReading, soundNumber}
-use Rattle.screen.specs.Edits.{homed, homedDown, goneFound, tabbedIn, backTabbedIn, put, cellAfter, typedAt, typedIn, typed, displayCleared, lineCleared, charDeleted, markSet, markTurned}
-use Rattle.terminal.specs.State.{World, freshWorld, isGood, isSized, barred, Sound}
-use Rattle.terminal.specs.Acts.{switched, tabbedBy, backTabbedBy, steered, stamps, stamped, acted}
-use Rattle.terminal.specs.Refusals.{firstRefusal}
+use Rattle.terminal.specs.State.{World, freshWorld, Sound}
 use Rattle.terminal.proofs.Good.{fresh-sound}
-use Rattle.key.specs.Keys.{keyAction, disallows, keyRefusal, keyDone, keyed}
-use Rattle.post.specs.Posts.{fits, allFit, tooLong, misfits, postRefusal, postedAt, postedTo}
-use Rattle.host.specs.Streams.{actionFor, readOn, steppedBy, stepped, replyTo, answerTo, fedOn, hostRefusal, fed}
+use Rattle.key.specs.Keys.{keyed}
+use Rattle.post.specs.Posts.{postedTo}
 use Rattle.host.proofs.Kept.{fed-sound}
 use Rattle.mixing.specs.Event.{key, post, run, answers, keysOf}
 use Rattle.mixing.specs.Mix.{Mixed, done, a-key, a-post, here, later}
 use Rattle.mixing.proofs.Mixes.{mixed-posts}
+use Rattle.cases.proofs.Rules.{rules}
 use Rattle.promises.specs.Mixing.{Key, handled, answered}
 use Rattle.promises.specs.Form.{Events, Posts, shown, numbers, form, lockedForm, awaited, bare, struck, keysFirst, postsFirst, posts, between, tag, Mixes, Covered, FormCovered, LockedCovered, PendingCovered, BareCovered, ReachNeeded, EnterBars, PostsKeepOrder, OrderShows}
 use Rattle.promises.proofs.Sparing.{every, spares, keepApart, apart-by}
@@ -33,7 +24,7 @@ use Rattle.promises.proofs.Mixing.{mixes-agree}
 
 -- what these computations look into
 unfoldable machine : ℕ
-unfolding firstOf lastOf countOf nthOf firstIn lastIn countIn patchFrom patch filled shiftedRight shiftedLeft filledWhereFrom filledWhere written posted gone atCell goneUp goneDown goneLeft goneRight inColumn homeAt risen fallen isPlaced aimed heldTo toColumn toRow marks isIn fieldEnd kindAt unprotected firstStart nextStart prevStart nthField fieldNumber holds target lettersTake digitsTake allowed rowUnderText actionOf unbegun settled counted nextReading soundNumber homed homedDown goneFound tabbedIn backTabbedIn put cellAfter typedAt typedIn typed displayCleared lineCleared charDeleted markSet markTurned freshWorld isGood isSized barred switched tabbedBy backTabbedBy steered stamps stamped acted keyAction firstRefusal disallows keyRefusal keyDone keyed fits allFit tooLong misfits postRefusal postedAt postedTo actionFor readOn steppedBy stepped replyTo answerTo fedOn hostRefusal fed form lockedForm awaited bare
+unfolding rules form lockedForm awaited bare
 machine = 0
 
 -- where the runs start

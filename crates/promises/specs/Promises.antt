@@ -35,9 +35,9 @@ pub record Promises (rows : ℕ) : Type 1 where
   pub host-numbers : HostNumbers rows
   -- an accepted post writes its field and nothing else
   pub post-writes : PostWrites rows
-  -- while format mode stays on, no protected cell changes its character
+  -- while format mode stays on, no protected cell changes its character; it keeps its attribute byte too, and every cell its mark
   pub protected-stay : ProtectedStay rows
-  -- document 01's own cases
+  -- document 01's own cases, with weights and clears
   pub cases-hold : CasesHold rows
   -- session records and sessions of any bytes
   pub part-numbers : PartNumbers rows

@@ -10,7 +10,7 @@ use borrow.Author.Tests.{ltb-true}
 use Rattle.cells.specs.declared.Found.{Found}
 use Rattle.cells.specs.declared.Found.the-variants.{At, Nothing}
 use Rattle.cells.specs.Search.{atOr, lastIn}
-use Rattle.cells.proofs.Patch.{length-filledWhere}
+use Rattle.cells.proofs.Patch.{length-changedWhere}
 use Rattle.cells.proofs.Splice.{length-movedUp, length-movedDown}
 use Rattle.cells.proofs.Values.{length-filled, length-shiftedRight, length-shiftedLeft}
 use Rattle.cursor.specs.declared.Cursor.{Cursor}
@@ -22,7 +22,7 @@ use Rattle.fields.proofs.Fields.{end-inside}
 use Rattle.fields.proofs.Starts.{first-inside, next-open, prev-open, target-open}
 use Rattle.screen.specs.Page.{Page, page, cell, marksOf}
 use Rattle.screen.specs.Whole.{Whole}
-use Rattle.screen.specs.Edits.{scrolled, lineFed, homed, homedDown, goneFound, tabbedIn, backTabbedIn, put, onward, typedFree, cellAfter, typedAt, typedIn, typed, displayCleared, lineCleared, charDeleted, rowInserted, rowDeleted, markSet, markTurned, enhanced}
+use Rattle.screen.specs.Edits.{scrolled, lineFed, homed, homedDown, goneFound, tabbedIn, backTabbedIn, put, onward, typedFree, cellAfter, typedAt, typedIn, typed, cleared, displayCleared, lineCleared, charDeleted, rowInserted, rowDeleted, markSet, markTurned, enhanced}
 
 -- what a choice has by a test: the first arm where the test holds, the second where it fails
 pub choose-by : {A : Type 0} (P : A → Type 0) (t : Bool) {x y : A} → (t ≡ true → P x) → (t ≡ false → P y) → P (cond t x y)
@@ -125,15 +125,19 @@ module _ {rows : ℕ} {p : Page} (w : Whole rows p) where
       choose-by (Whole rows) (allowed (kindAt (marksOf p) k) v) (λ _. typed-at-whole insert v k (h k refl)) (λ _. w)
   typed-in-whole insert v Nothing h = w
 
+  cleared-whole : (test : ℕ → Bool) → Whole rows (cleared test p)
+  unfolding cleared
+  cleared-whole test = whole-with (w .place) (length-changedWhere (p .chars) (cell p) test _) (length-changedWhere (p .attrs) (cell p) test _)
+
   pub displayCleared-whole : (format : Bool) → Whole rows (displayCleared format p)
   unfolding displayCleared
-  displayCleared-whole true = whole-with (w .place) (length-filledWhere (p .chars) (cell p) (unprotected (marksOf p)) 32) refl
+  displayCleared-whole true = cleared-whole (unprotected (marksOf p))
   displayCleared-whole false = whole-with (w .place) (length-filled (p .chars) _ _ _) (length-filled (p .attrs) _ _ _)
 
   pub lineCleared-whole : (format : Bool) → Whole rows (lineCleared format p)
   unfolding lineCleared
   lineCleared-whole true =
-      choose-by (Whole rows) (unprotected (marksOf p) (cell p)) (λ _. whole-with (w .place) (length-filled (p .chars) _ _ _) refl) (λ _. w)
+      choose-by (Whole rows) (unprotected (marksOf p) (cell p)) (λ _. cleared-whole (λ k. ltb k (fieldEnd (marksOf p) (cell p)))) (λ _. w)
   lineCleared-whole false = whole-with (w .place) (length-filled (p .chars) _ _ _) (length-filled (p .attrs) _ _ _)
 
   pub charDeleted-whole : (format : Bool) → Whole rows (charDeleted format p)

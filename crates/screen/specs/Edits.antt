@@ -8,10 +8,10 @@ use lib.Dec.{ltb}
 use Rattle.cells.specs.declared.Found.{Found}
 use Rattle.cells.specs.declared.Found.the-variants.{At, Nothing}
 use Rattle.cells.specs.Search.{atOr}
-use Rattle.cells.specs.Memory.{filled, filledWhere, shiftedRight, shiftedLeft, movedUp, movedDown}
+use Rattle.cells.specs.Memory.{filled, changedWhere, shiftedRight, shiftedLeft, movedUp, movedDown}
 use Rattle.cursor.specs.declared.Cursor.{Cursor}
 use Rattle.cursor.specs.Cursor.{cellOf, gone, atCell, goneDown, inColumn, homeAt}
-use Rattle.fields.specs.Fields.{markOf, isIn, endOfRow, kindAt, unprotected, fieldEnd, firstStart, nextStart, prevStart, target, allowed, rowUnderText}
+use Rattle.fields.specs.Fields.{markOf, stripped, isIn, endOfRow, kindAt, unprotected, fieldEnd, firstStart, nextStart, prevStart, target, allowed, rowUnderText}
 use Rattle.screen.specs.Page.{Page, page, withCursor, cell, marksOf}
 
 -- ---- line feed: next row, same column; at the last row with format off all rows with attributes move up, the last becomes blank with attributes 0;
@@ -73,15 +73,20 @@ unfoldable pub typed : ℕ → Bool → Bool → ℕ → Page → Page
 typed rows true insert v p = typedIn insert v (target (marksOf p) (cell p)) p
 typed rows false insert v p = typedFree rows insert v p
 
--- ---- clear display: format off, cursor to end becomes 32 with attribute 0; format on, unprotected cells from the cursor on become 32, attributes stay
+-- ---- clearing with format on, of the cells from the cursor on that pass the test: the character becomes 32, the mark stays with enhancement 0
+unfoldable pub cleared : (ℕ → Bool) → Page → Page
+cleared test p = page (p .cursor) (changedWhere (p .chars) (cell p) test (λ v. 32)) (changedWhere (p .attrs) (cell p) test stripped)
+
+-- ---- clear display: format off, cursor to end becomes 32 with attribute 0; format on, unprotected cells from the cursor on are cleared
 unfoldable pub displayCleared : Bool → Page → Page
-displayCleared true p = page (p .cursor) (filledWhere (p .chars) (cell p) (unprotected (marksOf p)) 32) (p .attrs)
+displayCleared true p = cleared (unprotected (marksOf p)) p
 displayCleared false p = page (p .cursor) (filled (p .chars) (cell p) (length (p .chars)) 32) (filled (p .attrs) (cell p) (length (p .attrs)) 0)
 
 -- ---- clear line: likewise to the row's end; format on, to the field's end if the cursor is unprotected, else nothing
 unfoldable pub lineCleared : Bool → Page → Page
 lineCleared true p =
-    cond (unprotected (marksOf p) (cell p)) (page (p .cursor) (filled (p .chars) (cell p) (fieldEnd (marksOf p) (cell p)) 32) (p .attrs)) p
+    let end = fieldEnd (marksOf p) (cell p) in
+    cond (unprotected (marksOf p) (cell p)) (cleared (λ k. ltb k end) p) p
 lineCleared false p =
     page (p .cursor) (filled (p .chars) (cell p) (endOfRow (cell p)) 32) (filled (p .attrs) (cell p) (endOfRow (cell p)) 0)
 

@@ -214,7 +214,7 @@ pub fn clear_display(
 {
     let k = cursor.cell();
     if format {
-        fields::fill_unprotected(chars, attrs, k, 32);
+        clearing::clear_unprotected(chars, attrs, k);
         return cursor;
     }
     let end = rows * 80;
@@ -234,16 +234,15 @@ pub fn clear_line(
     ensures { λ r. ⌜ page r (now (chars .exit)) (now (attrs .exit)) ≡ lineCleared format (page cursor (now (chars .entry)) (now (attrs .entry))) ⌝ }
 {
     let k = cursor.cell();
-    let row_end = k / 80 * 80 + 80;
     if format {
         if fields::is_unprotected(attrs, k) {
-            let end = fields::field_end(attrs, k);
-            cells::fill(chars, k, end, 32);
+            clearing::clear_rest(chars, attrs, k);
         }
         return cursor;
     }
-    cells::fill(chars, k, row_end, 32);
-    cells::fill(attrs, k, row_end, 0);
+    let end = k / 80 * 80 + 80;
+    cells::fill(chars, k, end, 32);
+    cells::fill(attrs, k, end, 0);
     cursor
 }
 
