@@ -1,7 +1,7 @@
 -- `fields::nth_field` meets its contract: the field sought from cell 0 on is the one with `left` before it from cell `i` on. Assumes nothing.
 use Prim.Native.Nat.{_-_, _≤_}
 use mathlib.Core.Logic.{⊎-elim}
-use mathlib.Core.Path.{refl, _∙_}
+use mathlib.Core.Path.{refl, sym, _∙_}
 use borrow.Author.Needs.{needs}
 use native.Mathlib.Omega.{arith}
 use lib.ListN.{length}
@@ -25,7 +25,7 @@ nth-field-spec =
     (λ c. (omega arith, passed-start))
     (λ c. omega arith)
     (λ c κs. search needs)
-    (λ c. passed-hit (c .before .before .before .before .before .loop .inv .1) (omega arith) (cc) (omega arith) ∙ nth-marks _ _ _)
+    (λ c. passed-hit (c .before .before .before .before .before .loop .inv .1) (omega arith) (sym (c .before .before .has-mark .ensures) ∙ c .before .if1 .taken) (omega arith) ∙ nth-marks _ _ _)
     (λ c. omega arith)
     (λ c. omega arith)
     (λ c. omega arith)
