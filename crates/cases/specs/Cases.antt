@@ -82,9 +82,13 @@ digitsForm = fiveCells 55
 abbrev pub oneCell : List ℕ
 oneCell = 27 ∷ 38 ∷ 97 ∷ 51 ∷ 114 ∷ 55 ∷ 67 ∷ 27 ∷ 91 ∷ 27 ∷ 67 ∷ 27 ∷ 93 ∷ 27 ∷ 87 ∷ []
 
--- A at row 0, then ESC & a, the last row's number, r 0 C: B in the last row, the cursor after it
+-- ESC & a, the last row's number, r, the digits of a column, C
+abbrev pub inLastRow : ℕ → List ℕ → List ℕ
+inLastRow rows column = 27 ∷ 38 ∷ 97 ∷ (48 + (rows - 1) / 10) ∷ (48 + (rows - 1) % 10) ∷ 114 ∷ (column ++ (67 ∷ []))
+
+-- A at row 0, then B in the last row, the cursor after it
 abbrev pub lastRow : ℕ → List ℕ
-lastRow rows = 65 ∷ 27 ∷ 38 ∷ 97 ∷ (48 + (rows - 1) / 10) ∷ (48 + (rows - 1) % 10) ∷ 114 ∷ 48 ∷ 67 ∷ 66 ∷ []
+lastRow rows = 65 ∷ (inLastRow rows (48 ∷ []) ++ (66 ∷ []))
 
 -- ---- a text for the field at cell 0 of a form, all of it blank: as a post, from the host and by keys
 
@@ -114,10 +118,6 @@ refuses rows form v =
 
 -- ---- clears in inverse video, enhancement 2, in the last row from column 70 on
 
--- ESC & a, the last row, r 7, the column less 70, C
-abbrev pub inLastRow : ℕ → ℕ → List ℕ
-inLastRow rows col = 27 ∷ 38 ∷ 97 ∷ (48 + (rows - 1) / 10) ∷ (48 + (rows - 1) % 10) ∷ 114 ∷ 55 ∷ (48 + col) ∷ 67 ∷ []
-
 -- ESC & d B, then the character: it stands in inverse video
 abbrev pub inverse : ℕ → List ℕ
 inverse v = 27 ∷ 38 ∷ 100 ∷ 66 ∷ v ∷ []
@@ -125,7 +125,7 @@ inverse v = 27 ∷ 38 ∷ 100 ∷ 66 ∷ v ∷ []
 -- a field with ABC, a label N and a field of two blanks, all in inverse video
 abbrev pub inverseForm : ℕ → List ℕ
 inverseForm rows =
-    inLastRow rows 0 ++ (27 ∷ 91 ∷ []) ++ inverse 65 ++ inverse 66 ++ inverse 67 ++ (27 ∷ 93 ∷ 32 ∷ [])
+    inLastRow rows (55 ∷ 48 ∷ []) ++ (27 ∷ 91 ∷ []) ++ inverse 65 ++ inverse 66 ++ inverse 67 ++ (27 ∷ 93 ∷ 32 ∷ [])
     ++ inverse 78 ++ (27 ∷ 91 ∷ []) ++ inverse 32 ++ inverse 32 ++ (27 ∷ 93 ∷ [])
 
 -- a memory of v with these cells there
@@ -212,15 +212,15 @@ clearCases rows =
     holdsOnly rows (65 ∷ 66 ∷ 67 ∷ 32 ∷ 78 ∷ []) (33 ∷ 32 ∷ 32 ∷ 5 ∷ 32 ∷ 33 ∷ 32 ∷ 5 ∷ []) form
     -- clear display in the middle of a field, format on: from the cursor on fields are blank without it, those that were blank too, and keep their marks; the part of the
     -- field before the cursor keeps it, and so does the label
-    ∷ clears rows form (27 ∷ 87 ∷ inLastRow rows 1) 74 264 (65 ∷ 32 ∷ 32 ∷ 32 ∷ 78 ∷ []) (33 ∷ 0 ∷ 0 ∷ 5 ∷ 32 ∷ 1 ∷ 0 ∷ 5 ∷ [])
+    ∷ clears rows form (27 ∷ 87 ∷ inLastRow rows (55 ∷ 49 ∷ [])) 74 264 (65 ∷ 32 ∷ 32 ∷ 32 ∷ 78 ∷ []) (33 ∷ 0 ∷ 0 ∷ 5 ∷ 32 ∷ 1 ∷ 0 ∷ 5 ∷ [])
     -- clear line there: to the field's end, and the other field keeps it
-    ∷ clears rows form (27 ∷ 87 ∷ inLastRow rows 1) 75 265 (65 ∷ 32 ∷ 32 ∷ 32 ∷ 78 ∷ []) (33 ∷ 0 ∷ 0 ∷ 5 ∷ 32 ∷ 33 ∷ 32 ∷ 5 ∷ [])
+    ∷ clears rows form (27 ∷ 87 ∷ inLastRow rows (55 ∷ 49 ∷ [])) 75 265 (65 ∷ 32 ∷ 32 ∷ 32 ∷ 78 ∷ []) (33 ∷ 0 ∷ 0 ∷ 5 ∷ 32 ∷ 33 ∷ 32 ∷ 5 ∷ [])
     -- at the field's start its mark stays
-    ∷ clears rows form (27 ∷ 87 ∷ inLastRow rows 0) 75 265 (32 ∷ 32 ∷ 32 ∷ 32 ∷ 78 ∷ []) (1 ∷ 0 ∷ 0 ∷ 5 ∷ 32 ∷ 33 ∷ 32 ∷ 5 ∷ [])
+    ∷ clears rows form (27 ∷ 87 ∷ inLastRow rows (55 ∷ 48 ∷ [])) 75 265 (32 ∷ 32 ∷ 32 ∷ 32 ∷ 78 ∷ []) (1 ∷ 0 ∷ 0 ∷ 5 ∷ 32 ∷ 33 ∷ 32 ∷ 5 ∷ [])
     -- on the label clear line does nothing
-    ∷ clears rows form (27 ∷ 87 ∷ inLastRow rows 4) 75 265 (65 ∷ 66 ∷ 67 ∷ 32 ∷ 78 ∷ []) (33 ∷ 32 ∷ 32 ∷ 5 ∷ 32 ∷ 33 ∷ 32 ∷ 5 ∷ [])
+    ∷ clears rows form (27 ∷ 87 ∷ inLastRow rows (55 ∷ 52 ∷ [])) 75 265 (65 ∷ 66 ∷ 67 ∷ 32 ∷ 78 ∷ []) (33 ∷ 32 ∷ 32 ∷ 5 ∷ 32 ∷ 33 ∷ 32 ∷ 5 ∷ [])
     -- format off, clear display: from the cursor on marks and the label go too
-    ∷ clears rows form (inLastRow rows 1) 74 264 (65 ∷ []) (33 ∷ [])
+    ∷ clears rows form (inLastRow rows (55 ∷ 49 ∷ [])) 74 264 (65 ∷ []) (33 ∷ [])
     ∷ []
 
 -- ---- all of them, in one list
