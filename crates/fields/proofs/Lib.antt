@@ -5,3 +5,4 @@ pub mod Fields
 pub mod Starts
 pub mod Numbers
 pub mod Scans
+pub mod Spots

@@ -1,9 +1,10 @@
 // Fields: scans over the attribute memory, rows of 80 cells. A scan stops at the first hit.
 ghost use mathlib.Core.Path.{_≡_};
-ghost use Prim.Native.Nat.{_+_, _*_, _/_, _≤_, _<_};
+ghost use Prim.Native.Nat.{_+_, _-_, _*_, _/_, _≤_, _<_};
 ghost use lib.ListN.{length};
 ghost use Rattle.cells.specs.Search.{firstIn, lastIn};
 ghost use Rattle.fields.specs.Walk.{kindAfter};
+ghost use Rattle.fields.specs.Spots.{spotOf};
 ghost use Rattle.fields.specs.Fields.{markOf, marks, isIn, kindAt, unprotected, fieldEnd, firstStart, nextStart, prevStart, nthField, target, allowed, nonBlank, rowUnderText};
 use cells::Found;
 
@@ -21,21 +22,35 @@ pub fn has_mark(a: u8, highest: u8) -> bool
     is_in(highest, a % 16)
 }
 
-// The first cell from `from` on, before `to`, whose mark is 1 to `highest`.
-pub fn first_between(attrs: &[u8], from: usize, to: usize, highest: u8) -> Found
-    requires { ⌜ to ≤ length (now attrs) ⌝ }
-    ensures { λ r. ⌜ r ≡ firstIn (isIn highest) (marks (now (attrs .entry))) from to ⌝ }
+// What a search by rows and columns finds: a row and a column, or nothing.
+pub enum Spot {
+    In(usize, usize),
+    Nowhere,
+}
+
+// `a` less `b`, at least 0.
+fn less(a: usize, b: usize) -> usize
+    ensures { λ r. ⌜ r ≡ a - b ⌝ }
 {
-    let mut row = from / 80;
-    let mut col = from % 80;
+    if b < a { a - b } else { 0 }
+}
+
+// The first place from a row and a column on, before cell `to`, whose mark is 1 to `highest`.
+fn first_spot(attrs: &[u8], from: usize, at: usize, to: usize, highest: u8) -> Spot
+    requires { ⌜ (at ≤ 80) × (from * 80 + at ≤ length (now attrs)) × (to ≤ length (now attrs)) ⌝ }
+    ensures { λ r. ⌜ r ≡ spotOf (firstIn (isIn highest) (marks (now (attrs .entry))) (from * 80 + at) to) ⌝ }
+{
+    let mut row = from;
+    let mut col = at;
     'rows: loop {
-        while col < 80 {
-            let cell = row * 80 + col;
-            if to <= cell {
-                break 'rows Found::Nothing;
-            }
-            if has_mark(attrs[cell], highest) {
-                break 'rows Found::At(cell);
+        let start = row * 80;
+        if to <= start {
+            break 'rows Spot::Nowhere;
+        }
+        let width = cells::least(80, to - start);
+        while col < width {
+            if has_mark(attrs[start + col], highest) {
+                break 'rows Spot::In(row, col);
             }
             col += 1;
         }
@@ -44,53 +59,63 @@ pub fn first_between(attrs: &[u8], from: usize, to: usize, highest: u8) -> Found
     }
 }
 
-// The last cell from `from` on, before `to`, whose mark is 1 to `highest`.
-pub fn last_between(attrs: &[u8], from: usize, to: usize, highest: u8) -> Found
-    requires { ⌜ to ≤ length (now attrs) ⌝ }
-    ensures { λ r. ⌜ r ≡ lastIn (isIn highest) (marks (now (attrs .entry))) from to ⌝ }
+// The last place from cell `from` on, before a row and a column, whose mark is 1 to `highest`.
+fn last_spot(attrs: &[u8], from: usize, to: usize, at: usize, highest: u8) -> Spot
+    requires { ⌜ (at ≤ 80) × (to * 80 + at ≤ length (now attrs)) ⌝ }
+    ensures { λ r. ⌜ r ≡ spotOf (lastIn (isIn highest) (marks (now (attrs .entry))) from (to * 80 + at)) ⌝ }
 {
-    let mut row = to / 80;
-    let mut col = to % 80;
+    let mut row = to;
+    let mut col = at;
     'rows: loop {
-        while 0 < col {
+        let start = row * 80;
+        let first = less(from, start);
+        while first < col {
             col -= 1;
-            let cell = row * 80 + col;
-            if cell < from {
-                break 'rows Found::Nothing;
-            }
-            if has_mark(attrs[cell], highest) {
-                break 'rows Found::At(cell);
+            if has_mark(attrs[start + col], highest) {
+                break 'rows Spot::In(row, col);
             }
         }
-        if row == 0 {
-            break 'rows Found::Nothing;
+        if start <= from {
+            break 'rows Spot::Nowhere;
         }
         row -= 1;
         col = 80;
     }
 }
 
-// Tab: the first unprotected field start after the cell, else the first of all; no cell is looked at twice.
+// Tab: the first unprotected field start after a place, else the first of all; no cell is looked at twice.
+pub fn next_spot(attrs: &[u8], row: usize, col: usize) -> Spot
+    requires { ⌜ (col < 80) × (row * 80 + col < length (now attrs)) ⌝ }
+    ensures { λ r. ⌜ r ≡ spotOf (nextStart (marks (now (attrs .entry))) (row * 80 + col)) ⌝ }
+{
+    let after = first_spot(attrs, row, col + 1, attrs.len(), 3);
+    match after {
+        Spot::In(r, c) => Spot::In(r, c),
+        Spot::Nowhere => first_spot(attrs, 0, 0, row * 80 + col + 1, 3),
+    }
+}
+
+// Back tab: the last unprotected field start before a place, else the last of all; no cell is looked at twice.
+pub fn prev_spot(attrs: &[u8], row: usize, col: usize) -> Spot
+    requires { ⌜ (col < 80) × (row * 80 + col < length (now attrs)) ⌝ }
+    ensures { λ r. ⌜ r ≡ spotOf (prevStart (marks (now (attrs .entry))) (row * 80 + col)) ⌝ }
+{
+    let before = last_spot(attrs, 0, row, col, 3);
+    match before {
+        Spot::In(r, c) => Spot::In(r, c),
+        Spot::Nowhere => last_spot(attrs, row * 80 + col, attrs.len() / 80, attrs.len() % 80, 3),
+    }
+}
+
+// The cell where tab goes.
 pub fn next_start(attrs: &[u8], cell: usize) -> Found
     requires { ⌜ cell < length (now attrs) ⌝ }
     ensures { λ r. ⌜ r ≡ nextStart (marks (now (attrs .entry))) cell ⌝ }
 {
-    let after = first_between(attrs, cell + 1, attrs.len(), 3);
-    match after {
-        Found::At(i) => Found::At(i),
-        Found::Nothing => first_between(attrs, 0, cell + 1, 3),
-    }
-}
-
-// Back tab: the last unprotected field start before the cell, else the last of all; no cell is looked at twice.
-pub fn prev_start(attrs: &[u8], cell: usize) -> Found
-    requires { ⌜ cell < length (now attrs) ⌝ }
-    ensures { λ r. ⌜ r ≡ prevStart (marks (now (attrs .entry))) cell ⌝ }
-{
-    let before = last_between(attrs, 0, cell, 3);
-    match before {
-        Found::At(i) => Found::At(i),
-        Found::Nothing => last_between(attrs, cell, attrs.len(), 3),
+    let next = next_spot(attrs, cell / 80, cell % 80);
+    match next {
+        Spot::In(row, col) => Found::At(row * 80 + col),
+        Spot::Nowhere => Found::Nothing,
     }
 }
 
@@ -98,7 +123,11 @@ pub fn prev_start(attrs: &[u8], cell: usize) -> Found
 pub fn first_start(attrs: &[u8], highest: u8) -> Found
     ensures { λ r. ⌜ r ≡ firstStart highest (marks (now (attrs .entry))) ⌝ }
 {
-    first_between(attrs, 0, attrs.len(), highest)
+    let first = first_spot(attrs, 0, 0, attrs.len(), highest);
+    match first {
+        Spot::In(row, col) => Found::At(row * 80 + col),
+        Spot::Nowhere => Found::Nothing,
+    }
 }
 
 // The kind of cell `i` from its mark and the kind of the cell before it.

@@ -9,6 +9,7 @@ ghost use Rattle.screen.specs.Whole.{Whole};
 ghost use Rattle.screen.specs.Edits.{scrolled, lineFed, homed, homedDown, tabbedIn, backTabbedIn, put, onward, typedFree, cellAfter, typedAt, typedIn, typed, displayCleared, lineCleared, charDeleted, rowInserted, rowDeleted, markSet, markTurned, enhanced};
 use cells::Found;
 use cursor::Cursor;
+use fields::Spot;
 
 // All rows move up by one, a blank row enters.
 fn scroll(chars: &mut [u8], attrs: &mut [u8], rows: usize, cursor: Cursor) -> Cursor
@@ -65,10 +66,10 @@ pub fn tab_in(attrs: &[u8], cursor: Cursor) -> Cursor
     requires { ⌜ (cursor .row < 96) × (cursor .col < 80) × (cellOf cursor < length (now attrs)) ⌝ }
     ensures { λ r. ⌜ r ≡ tabbedIn (marks (now (attrs .entry))) cursor ⌝ }
 {
-    let next = fields::next_start(attrs, cursor.cell());
+    let next = fields::next_spot(attrs, cursor.row, cursor.col);
     match next {
-        Found::At(k) => cursor.go_to(k),
-        Found::Nothing => cursor,
+        Spot::In(row, col) => cursor.go(row, col),
+        Spot::Nowhere => cursor,
     }
 }
 
@@ -77,10 +78,10 @@ pub fn back_tab_in(attrs: &[u8], cursor: Cursor) -> Cursor
     requires { ⌜ (cursor .row < 96) × (cursor .col < 80) × (cellOf cursor < length (now attrs)) ⌝ }
     ensures { λ r. ⌜ r ≡ backTabbedIn (marks (now (attrs .entry))) cursor ⌝ }
 {
-    let before = fields::prev_start(attrs, cursor.cell());
+    let before = fields::prev_spot(attrs, cursor.row, cursor.col);
     match before {
-        Found::At(k) => cursor.go_to(k),
-        Found::Nothing => cursor,
+        Spot::In(row, col) => cursor.go(row, col),
+        Spot::Nowhere => cursor,
     }
 }
 

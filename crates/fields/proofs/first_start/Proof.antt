@@ -1,16 +1,19 @@
--- `fields::first_start` meets its contract: the marks are as many as the bytes. Assumes nothing.
-use mathlib.Core.Path.{ap, sym, _∙_}
+-- `fields::first_start` meets its contract: the cell of the place that `first_spot` finds. Assumes nothing.
+use mathlib.Core.Path.{sym}
 use borrow.Author.Needs.{needs}
-use Rattle.cells.specs.Search.{firstIn}
-use Rattle.fields.specs.Fields.{firstStart}
-use Rattle.fields.proofs.Marks.{length-marks}
+use native.Mathlib.Omega.{arith}
+use Rattle.fields.proofs.Spots.{first-cell, first-none, home-inside}
 use Rattle.fields.proofs.first_start.Statement.{statement}
 use Rattle.fields.proofs.first_start.Tie as tie
 
 pub first-start-spec : {M : Type 1} → statement M
-unfolding firstStart
 first-start-spec =
     tie.close
     (tie.spec
     (λ c κs. search needs)
-    (λ c. c .first-between .ensures ∙ ap (firstIn _ _ 0) (sym (length-marks _))))
+    (λ c. search needs)
+    (λ c. let a = c .before .before .before .before .before .args in omega (arith, home-inside (a .attrs .now) (a .highest) _ (first-cell (a .attrs .now) (a .highest) (c .before .before .before .first-spot .ensures) (c .before .first .given .1))))
+    (λ c. let a = c .before .before .before .before .before .args in omega (arith, home-inside (a .attrs .now) (a .highest) _ (first-cell (a .attrs .now) (a .highest) (c .before .before .before .first-spot .ensures) (c .before .first .given .1))))
+    (λ c. search needs)
+    (λ c. sym (first-cell _ _ (c .before .before .before .first-spot .ensures) (c .before .first .given .1)))
+    (λ c. sym (first-none _ _ (c .before .before .first-spot .ensures) (c .enum-told .given .1))))

@@ -1,18 +1,18 @@
--- `screen::back_tab_in` meets its contract: by what `prev_start` finds. Assumes nothing.
-use Rattle.screen.specs.Edits.{backTabbedIn, goneFound}
+-- `screen::back_tab_in` meets its contract: by what `prev_spot` finds. Assumes nothing.
 use borrow.Author.Needs.{needs}
+use Rattle.screen.specs.Edits.{backTabbedIn}
+use Rattle.screen.proofs.Tabs.{gone-in, gone-nowhere}
 use Rattle.screen.proofs.back_tab_in.Statement.{statement}
 use Rattle.screen.proofs.back_tab_in.Tie as tie
 
 pub back-tab-in-spec : {M : Type 1} → statement M
-unfolding backTabbedIn goneFound
+unfolding backTabbedIn
 back-tab-in-spec =
     tie.close
     (tie.spec
     (λ c κs. search needs)
-    (λ c κs. search needs)
     (λ c. search needs)
     (λ c κs. search needs)
     (λ c. search needs)
-    (λ c. rw (← c .before .before .before .before .before .cell .ensures, ← c .before .before .before .before .prev-start .ensures, c .before .before .before2 .given .1) (c .go-to .ensures))
-    (λ c. rw (← c .before .before .before .cell .ensures, ← c .before .before .prev-start .ensures, c .enum-told .given .1)))
+    (λ c. gone-in _ _ (c .before .before .before .before .prev-spot .ensures) (c .before .before .before2 .given .1) (c .go .ensures))
+    (λ c. gone-nowhere _ _ (c .before .before .prev-spot .ensures) (c .enum-told .given .1)))
