@@ -6,7 +6,8 @@ use lib.Dec.{eqb}
 use Rattle.cells.specs.declared.Found.{Found}
 use Rattle.cells.specs.Search.{isNothing}
 use Rattle.fields.specs.Fields.{marks}
-use Rattle.terminal.specs.State.{World}
+use Rattle.terminal.specs.declared.Terminal.{Terminal}
+use Rattle.terminal.specs.State.{World, world}
 use Rattle.terminal.specs.Refusals.{_when_, firstRefusal}
 use Rattle.post.specs.Posts.{Posted, tooLong, misfits, postedAt}
 
@@ -19,3 +20,7 @@ unfoldable pub postedIn : World → List ℕ → Found → Posted
 postedIn w text found =
     let n = fieldRefusal w text found in
     record { number = n; world = cond (eqb n 0) (postedAt w text found) w }
+
+-- what a post leaves, from its number, and the state that it leaves as it was
+abbrev pub numbered : ℕ → Terminal → List ℕ → List ℕ → Posted
+numbered n t chars attrs = record { number = n; world = world t chars attrs }

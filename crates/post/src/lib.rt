@@ -4,7 +4,7 @@ ghost use Prim.Native.Nat.{_*_, _≤_, _<_};
 ghost use Rattle.cells.specs.declared.Found.the-variants.{At};
 ghost use Rattle.terminal.specs.State.{world, Sound};
 ghost use Rattle.post.specs.Posts.{fits, allFit, postLeft, postedTo};
-ghost use Rattle.post.specs.Field.{postedIn};
+ghost use Rattle.post.specs.Field.{numbered, postedIn};
 use cells::Found;
 use terminal::Terminal;
 
@@ -38,36 +38,51 @@ fn fits_all(kind: u8, text: &[u8]) -> bool
     true
 }
 
-// A post into the field that starts at cell `k`.
-fn post_field(
+// A post into the field that starts at cell `k`: its number.
+fn post_field(t: Terminal, rows: usize, chars: &mut [u8], attrs: &[u8], k: usize, text: &[u8]) -> u8
+    requires { ⌜ Sound rows (world t (now chars) (now attrs)) ⌝ ∗ ⌜ k < rows * 80 ⌝ }
+    ensures { λ r. ⌜ numbered r t (now (chars .exit)) (now (attrs .entry)) ≡ postedIn (world t (now (chars .entry)) (now (attrs .entry))) (now (text .entry)) (At k) ⌝ }
+{
+    let end = fields::field_end(attrs, k);
+    if end - k < text.len() {
+        return 10;
+    }
+    let kind = fields::kind_at(attrs, k);
+    if !fits_all(kind, text) {
+        return 6;
+    }
+    cells::post_at(chars, k, end, text);
+    0
+}
+
+// A post to a field, in a memory of `rows` rows: its number.
+fn post_to(
     t: Terminal,
     rows: usize,
     chars: &mut [u8],
     attrs: &[u8],
-    k: usize,
+    field: usize,
     text: &[u8],
-) -> PostAnswer
-    requires { ⌜ Sound rows (world t (now chars) (now attrs)) ⌝ ∗ ⌜ k < rows * 80 ⌝ }
-    ensures { λ r. ⌜ postLeft r (now (chars .exit)) (now (attrs .entry)) ≡ postedIn (world t (now (chars .entry)) (now (attrs .entry))) (now (text .entry)) (At k) ⌝ }
+) -> u8
+    requires { ⌜ (24 ≤ rows) × (rows ≤ 96) ⌝ }
+    ensures { λ r. ⌜ numbered r t (now (chars .exit)) (now (attrs .entry)) ≡ postedTo rows (world t (now (chars .entry)) (now (attrs .entry))) field (now (text .entry)) ⌝ }
 {
-    let end = fields::field_end(attrs, k);
-    if end - k < text.len() {
-        return PostAnswer {
-            number: 10,
-            state: t,
-        };
+    if !terminal::is_sized(rows, chars, attrs) {
+        return 1;
     }
-    let kind = fields::kind_at(attrs, k);
-    if !fits_all(kind, text) {
-        return PostAnswer {
-            number: 6,
-            state: t,
-        };
+    if !t.is_good(rows) {
+        return 2;
     }
-    cells::post_at(chars, k, end, text);
-    PostAnswer {
-        number: 0,
-        state: t,
+    if t.is_barred() {
+        return 4;
+    }
+    if !t.format {
+        return 8;
+    }
+    let start = fields::nth_field(attrs, field);
+    match start {
+        Found::At(k) => post_field(t, rows, chars, attrs, k, text),
+        Found::Nothing => 9,
     }
 }
 
@@ -83,37 +98,10 @@ fn post_on(
     requires { ⌜ (24 ≤ rows) × (rows ≤ 96) ⌝ }
     ensures { λ r. ⌜ postLeft r (now (chars .exit)) (now (attrs .entry)) ≡ postedTo rows (world t (now (chars .entry)) (now (attrs .entry))) field (now (text .entry)) ⌝ }
 {
-    if !terminal::is_sized(rows, chars, attrs) {
-        return PostAnswer {
-            number: 1,
-            state: t,
-        };
-    }
-    if !t.is_good(rows) {
-        return PostAnswer {
-            number: 2,
-            state: t,
-        };
-    }
-    if t.is_barred() {
-        return PostAnswer {
-            number: 4,
-            state: t,
-        };
-    }
-    if !t.format {
-        return PostAnswer {
-            number: 8,
-            state: t,
-        };
-    }
-    let start = fields::nth_field(attrs, field);
-    match start {
-        Found::At(k) => post_field(t, rows, chars, attrs, k, text),
-        Found::Nothing => PostAnswer {
-            number: 9,
-            state: t,
-        },
+    let number = post_to(t, rows, chars, attrs, field, text);
+    PostAnswer {
+        number: number,
+        state: t,
     }
 }
 
