@@ -4,7 +4,7 @@ ghost use Prim.Native.Nat.{_+_, _*_, _%_, _≤_, _<_};
 ghost use lib.ListN.{length};
 ghost use Rattle.cells.specs.Search.{lastIn};
 ghost use Rattle.cells.specs.Memory.{written};
-ghost use Rattle.fields.specs.Fields.{isIn, nonBlank};
+ghost use Rattle.fields.specs.Fields.{markOf, isIn, nonBlank};
 ghost use Rattle.replies.specs.Replies.{cursorReply, bit, statusReply, fieldsReply, through, rowReply, blockReply};
 use cells::Found;
 
@@ -48,65 +48,60 @@ pub fn report_status(format: bool, insert: bool, lock: bool) -> [u8; 10]
     [27, 92, flags, 48, 48, 48, 48, 48, 48, 13]
 }
 
-// Whether a block transfer sends the fields of a mark: 1 to 4.
-fn is_sent(mark: u8) -> bool
-    ensures { λ r. ⌜ r ≡ isIn 4 mark ⌝ }
+// Whether a block transfer sends a field that starts at a cell: its attribute byte's mark is 1 to 4.
+fn is_sent(a: u8) -> bool
+    ensures { λ r. ⌜ r ≡ isIn 4 (markOf a) ⌝ }
 {
-    fields::is_in(4, mark)
+    fields::has_mark(a, 4)
 }
 
 // How many bytes all fields of marks 1 to 4 send, with their separators.
 fn measure_fields(chars: &[u8], attrs: &[u8]) -> usize
-    requires { ⌜ (length (now chars) ≡ length (now attrs)) × (length (now attrs) ≤ 7680) ⌝ }
+    requires { ⌜ (length (now chars) ≡ length (now attrs)) × (length (now attrs) ≤ 7680) × (length (now attrs) % 80 ≡ 0) ⌝ }
     ensures { λ r. ⌜ r ≡ length (fieldsReply (now (chars .entry)) (now (attrs .entry))) ⌝ }
 {
     let mut n = 1;
-    let mut kind = 0;
     let mut some = false;
     let mut i = 0;
     while i < attrs.len() {
-        let mark = attrs[i] % 16;
-        kind = fields::kind_after(i, kind, mark);
-        if is_sent(mark) {
+        if is_sent(attrs[i]) {
             if some {
                 n += 1;
             }
-            n += 1;
             some = true;
-        } else if is_sent(kind) {
-            n += 1;
+            let end = fields::field_end(attrs, i);
+            n += end - i;
+            i = end;
+        } else {
+            i += 1;
         }
-        i += 1;
     }
     n
 }
 
 // All fields of marks 1 to 4, from byte `at` of the reply on; the place past the last byte.
 fn send_fields(chars: &[u8], attrs: &[u8], reply: &mut [u8], at: usize) -> usize
-    requires { ⌜ length (now chars) ≡ length (now attrs) ⌝ ∗ ⌜ at + length (fieldsReply (now chars) (now attrs)) ≤ length (now reply) ⌝ }
+    requires { ⌜ (length (now chars) ≡ length (now attrs)) × (length (now attrs) % 80 ≡ 0) ⌝ ∗ ⌜ at + length (fieldsReply (now chars) (now attrs)) ≤ length (now reply) ⌝ }
     ensures { λ r. ⌜ r ≡ at + length (fieldsReply (now (chars .entry)) (now (attrs .entry))) ⌝ }
     ensures { λ r. ⌜ now (reply .exit) ≡ written (now (reply .entry)) at (fieldsReply (now (chars .entry)) (now (attrs .entry))) ⌝ }
 {
     let mut n = at;
-    let mut kind = 0;
     let mut some = false;
     let mut i = 0;
     while i < attrs.len() {
-        let mark = attrs[i] % 16;
-        kind = fields::kind_after(i, kind, mark);
-        if is_sent(mark) {
+        if is_sent(attrs[i]) {
             if some {
                 reply[n] = 31;
                 n += 1;
             }
-            reply[n] = chars[i];
-            n += 1;
             some = true;
-        } else if is_sent(kind) {
-            reply[n] = chars[i];
-            n += 1;
+            let end = fields::field_end(attrs, i);
+            cells::write_at(reply, n, &chars[i..end]);
+            n += end - i;
+            i = end;
+        } else {
+            i += 1;
         }
-        i += 1;
     }
     reply[n] = 30;
     n + 1
@@ -141,7 +136,7 @@ fn send_row(chars: &[u8], row: usize, reply: &mut [u8], at: usize) -> usize
 
 // How many bytes a block transfer sends.
 pub fn measure_block(chars: &[u8], attrs: &[u8], format: bool, row: usize) -> usize
-    requires { ⌜ (row < 96) × (row * 80 + 80 ≤ length (now chars)) × (length (now chars) ≡ length (now attrs)) × (length (now attrs) ≤ 7680) ⌝ }
+    requires { ⌜ (row < 96) × (row * 80 + 80 ≤ length (now chars)) × (length (now chars) ≡ length (now attrs)) × (length (now attrs) ≤ 7680) × (length (now attrs) % 80 ≡ 0) ⌝ }
     ensures { λ r. ⌜ r ≡ length (blockReply format (now (chars .entry)) (now (attrs .entry)) row) ⌝ }
 {
     if format {
@@ -159,7 +154,7 @@ pub fn send_block(
     reply: &mut [u8],
     at: usize,
 ) -> usize
-    requires { ⌜ (row < 96) × (row * 80 + 80 ≤ length (now chars)) × (length (now chars) ≡ length (now attrs)) ⌝ ∗ ⌜ at + length (blockReply format (now chars) (now attrs) row) ≤ length (now reply) ⌝ }
+    requires { ⌜ (row < 96) × (row * 80 + 80 ≤ length (now chars)) × (length (now chars) ≡ length (now attrs)) × (length (now attrs) % 80 ≡ 0) ⌝ ∗ ⌜ at + length (blockReply format (now chars) (now attrs) row) ≤ length (now reply) ⌝ }
     ensures { λ r. ⌜ r ≡ at + length (blockReply format (now (chars .entry)) (now (attrs .entry)) row) ⌝ }
     ensures { λ r. ⌜ now (reply .exit) ≡ written (now (reply .entry)) at (blockReply format (now (chars .entry)) (now (attrs .entry)) row) ⌝ }
 {
