@@ -1,13 +1,19 @@
 // The call for a key.
 ghost use mathlib.Core.Path.{_≡_};
-ghost use Prim.Native.Nat.{_≤_, _<_};
-ghost use lib.ListN.{length};
+ghost use mathlib.Core.Bool.{cond, not};
+ghost use Prim.Native.Nat.{_*_, _%_, _≤_, _<_};
+ghost use lib.Dec.{eqb};
+ghost use lib.ListN.{length, set};
 ghost use Rattle.cells.specs.Range.{within};
+ghost use Rattle.cursor.specs.Cursor.{InPlace};
 ghost use Rattle.fields.specs.Fields.{marks, target};
 ghost use Rattle.terminal.specs.State.{world, Sound};
-ghost use Rattle.key.specs.Keys.{keyAction, keyRefusal, keyLeft, keyDone, keyed};
+ghost use Rattle.terminal.specs.Acts.{tabbedBy, backTabbedBy, acted};
+ghost use Rattle.key.specs.Keys.{keyAction, enter, keyRefusal, keyLeft, keyed};
 ghost use Rattle.key.specs.Aim.{aimRefusal};
+ghost use Rattle.key.specs.Pressed.{pressed};
 use cells::Found;
+use cursor::Cursor;
 use terminal::Terminal;
 
 // The number, the bytes written to the reply, and the state afterwards.
@@ -106,36 +112,114 @@ fn refuse(t: Terminal, rows: usize, chars: &[u8], attrs: &[u8], code: u16, room:
     0
 }
 
-// A key that is not refused.
-fn do_key(
-    t: Terminal,
-    rows: usize,
-    chars: &mut [u8],
-    attrs: &mut [u8],
-    code: u16,
-    reply: &mut [u8],
-) -> KeyAnswer
-    requires { ⌜ Sound rows (world t (now chars) (now attrs)) ⌝ ∗ ⌜ (code ≡ 273 → 0 < length (now reply)) ⌝ }
-    ensures { λ r. ⌜ keyLeft r (now (chars .exit)) (now (attrs .exit)) (now (reply .exit)) ≡ keyDone rows (world t (now (chars .entry)) (now (attrs .entry))) (now (reply .entry)) code ⌝ }
+// Where tab goes: by fields with format on, by tab stops with format off.
+fn tab(t: Terminal, rows: usize, attrs: &[u8]) -> Cursor
+    requires { ⌜ (rows ≤ 96) × (length (now attrs) ≡ rows * 80) ⌝ ∗ ⌜ InPlace rows (t .cursor) ⌝ }
+    ensures { λ r. ⌜ r ≡ tabbedBy rows (now (attrs .entry)) t ⌝ }
 {
-    let a = action_of(code, t.insert);
-    let next = t.act(rows, chars, attrs, a, (code % 256) as u8);
-    if code == 273 {
-        reply[0] = 18;
-        return KeyAnswer {
-            number: 0,
-            written: 1,
-            state: next,
-        };
+    if t.format {
+        let c = t.cursor;
+        return screen::tab_in(attrs, c);
     }
-    KeyAnswer {
-        number: 0,
-        written: 0,
-        state: next,
+    t.tab(rows, attrs).cursor
+}
+
+// Where back tab goes.
+fn back_tab(t: Terminal, rows: usize, attrs: &[u8]) -> Cursor
+    requires { ⌜ (rows ≤ 96) × (length (now attrs) ≡ rows * 80) ⌝ ∗ ⌜ InPlace rows (t .cursor) ⌝ }
+    ensures { λ r. ⌜ r ≡ backTabbedBy (now (attrs .entry)) t ⌝ }
+{
+    if t.format {
+        let c = t.cursor;
+        return screen::back_tab_in(attrs, c);
+    }
+    t.back_tab(rows, attrs).cursor
+}
+
+// What a key does to the memory, and where the cursor is after it. A code that is not listed does nothing.
+fn strike(t: Terminal, rows: usize, chars: &mut [u8], attrs: &mut [u8], code: u16) -> Cursor
+    requires { ⌜ ((code ≡ 0 → ⊥) → Sound rows (world t (now chars) (now attrs))) ⌝ }
+    ensures { λ r. ⌜ world (pressed code r t) (now (chars .exit)) (now (attrs .exit)) ≡ acted rows (keyAction code (t .insert)) (code % 256) (world t (now (chars .entry)) (now (attrs .entry))) ⌝ }
+{
+    if is_text(code) {
+        let c = t.cursor;
+        let v = (code % 256) as u8;
+        return screen::type_char(chars, attrs, rows, c, t.format, t.insert, v);
+    }
+    match code {
+        256 => t.move_up().cursor,
+        257 => t.move_down(rows).cursor,
+        258 => t.move_right(rows).cursor,
+        259 => t.move_left(rows).cursor,
+        260 => t.move_home(attrs, 3).cursor,
+        261 => t.move_home_down(rows, chars).cursor,
+        262 => tab(t, rows, attrs),
+        263 => back_tab(t, rows, attrs),
+        264 => t.clear_display(rows, chars, attrs).cursor,
+        265 => t.clear_line(rows, chars, attrs).cursor,
+        266 => t.cursor,
+        267 => t.delete_char(rows, chars, attrs).cursor,
+        268 => t.move_column0().cursor,
+        269 => t.roll_up(rows, 1).cursor,
+        270 => t.roll_down(rows, 1).cursor,
+        271 => t.roll_up(rows, 24).cursor,
+        272 => t.roll_down(rows, 24).cursor,
+        273 => t.cursor,
+        _ => t.cursor,
     }
 }
 
-// A key, in a memory of `rows` rows.
+// Insert mode after a key: 266 changes it over.
+fn switch_insert(code: u16, insert: bool) -> bool
+    ensures { λ r. ⌜ r ≡ cond (eqb code 266) (not insert) insert ⌝ }
+{
+    if code == 266 { !insert } else { insert }
+}
+
+// The pending transfer after a key: ENTER asks for a block.
+fn ask(code: u16, pending: u8) -> u8
+    ensures { λ r. ⌜ r ≡ cond (eqb code enter) 4 pending ⌝ }
+{
+    if code == 273 { 4 } else { pending }
+}
+
+// What a key does. The state is put together here alone, so that it is not copied from call to call.
+fn press(mut t: Terminal, rows: usize, chars: &mut [u8], attrs: &mut [u8], code: u16) -> Terminal
+    requires { ⌜ ((code ≡ 0 → ⊥) → Sound rows (world t (now chars) (now attrs))) ⌝ }
+    ensures { λ r. ⌜ world r (now (chars .exit)) (now (attrs .exit)) ≡ acted rows (keyAction code (t .insert)) (code % 256) (world t (now (chars .entry)) (now (attrs .entry))) ⌝ }
+{
+    let moved = strike(t, rows, chars, attrs, code);
+    t.cursor = moved;
+    t.insert = switch_insert(code, t.insert);
+    t.pending = ask(code, t.pending);
+    t
+}
+
+// How many bytes a key writes to the reply: ENTER one.
+fn measure(code: u16) -> usize
+    ensures { λ r. ⌜ r ≡ cond (eqb code enter) 1 0 ⌝ }
+{
+    if code == 273 { 1 } else { 0 }
+}
+
+// What a key writes to the reply: ENTER byte 18.
+fn send(code: u16, reply: &mut [u8])
+    requires { ⌜ (code ≡ 273 → 0 < length (now reply)) ⌝ }
+    ensures { λ _. ⌜ now (reply .exit) ≡ cond (eqb code enter) (set (now (reply .entry)) 0 18) (now (reply .entry)) ⌝ }
+{
+    if code == 273 {
+        reply[0] = 18;
+    }
+}
+
+// The code that is done: 0, which is not listed and does nothing, where the key is refused.
+fn admit(n: u8, code: u16) -> u16
+    ensures { λ r. ⌜ r ≡ cond (eqb n 0) code 0 ⌝ }
+{
+    if n == 0 { code } else { 0 }
+}
+
+// A key, in a memory of `rows` rows. A refused key goes the same way, so that the answer is put together in one place.
 fn key_on(
     t: Terminal,
     rows: usize,
@@ -148,14 +232,14 @@ fn key_on(
     ensures { λ r. ⌜ keyLeft r (now (chars .exit)) (now (attrs .exit)) (now (reply .exit)) ≡ keyed rows (world t (now (chars .entry)) (now (attrs .entry))) (now (reply .entry)) code ⌝ }
 {
     let n = refuse(t, rows, chars, attrs, code, reply.len());
-    if n != 0 {
-        return KeyAnswer {
-            number: n,
-            written: 0,
-            state: t,
-        };
+    let done = admit(n, code);
+    let next = press(t, rows, chars, attrs, done);
+    send(done, reply);
+    KeyAnswer {
+        number: n,
+        written: measure(done),
+        state: next,
     }
-    do_key(t, rows, chars, attrs, code, reply)
 }
 
 // A key. Takes any state, any buffers and any code; a refusal changes nothing. ENTER writes byte 18 to the reply.
