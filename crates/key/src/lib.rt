@@ -117,11 +117,12 @@ fn tab(t: Terminal, rows: usize, attrs: &[u8]) -> Cursor
     requires { ⌜ (rows ≤ 96) × (length (now attrs) ≡ rows * 80) ⌝ ∗ ⌜ InPlace rows (t .cursor) ⌝ }
     ensures { λ r. ⌜ r ≡ tabbedBy rows (now (attrs .entry)) t ⌝ }
 {
+    let c = t.cursor;
     if t.format {
-        let c = t.cursor;
         return screen::tab_in(attrs, c);
     }
-    t.tab(rows, attrs).cursor
+    let tabs = t.tabs;
+    c.tab(rows, tabs)
 }
 
 // Where back tab goes.
@@ -129,11 +130,12 @@ fn back_tab(t: Terminal, rows: usize, attrs: &[u8]) -> Cursor
     requires { ⌜ (rows ≤ 96) × (length (now attrs) ≡ rows * 80) ⌝ ∗ ⌜ InPlace rows (t .cursor) ⌝ }
     ensures { λ r. ⌜ r ≡ backTabbedBy (now (attrs .entry)) t ⌝ }
 {
+    let c = t.cursor;
     if t.format {
-        let c = t.cursor;
         return screen::back_tab_in(attrs, c);
     }
-    t.back_tab(rows, attrs).cursor
+    let tabs = t.tabs;
+    c.back_tab(tabs)
 }
 
 // What a key does to the memory, and where the cursor is after it. A code that is not listed does nothing.
