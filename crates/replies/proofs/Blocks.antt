@@ -1,13 +1,14 @@
 -- What a block transfer has still to send from a cell on, field by field; and the row that it sends with format off. Assumes nothing.
 use Prim.Native.Nat.{ℕ, zero, suc, _+_, _-_, _*_, _%_, _≤_, _<_, min}
-use mathlib.Core.Path.{_≡_, refl, sym, ap, _∙_}
+use mathlib.Core.Path.{_≡_, refl, sym, ap, ap₂, _∙_}
 use mathlib.Core.Bool.{Bool, true, false, cond}
 use mathlib.Core.Logic.{_⊎_, ⊎-elim}
 use mathlib.Core.List.{List, [], _∷_, _++_, map, append-nil, append-assoc}
 use native.Mathlib.Numerals.{add-one}
 use native.Mathlib.Omega.{arith}
+use native.Mathlib.Decide.{decLt}
 use lib.ListN.{length, getD, set, take, drop, length-append, length-take, length-drop, drop-of-length-le}
-use lib.Seq.{slice, drop-cons, drop-at, take-add, length-take-le}
+use lib.Seq.{slice, length-slice, drop-cons, getD-take, drop-at, take-add, length-take-le}
 use Rattle.cells.specs.declared.Found.{Found}
 use Rattle.cells.specs.declared.Found.the-variants.{At, Nothing}
 use Rattle.cells.specs.Search.{lastIn, allOf}
@@ -15,11 +16,11 @@ use Rattle.cells.proofs.Finds.{FindsLast}
 use Rattle.cells.specs.Memory.{written}
 use Rattle.cells.proofs.Search.{not-both, last-finds}
 use Rattle.cells.proofs.Splice.{length-part}
-use Rattle.fields.specs.Fields.{markOf, marks, isIn, fieldEnd, nonBlank}
+use Rattle.fields.specs.Fields.{markOf, marks, isIn, endOfRow, fieldEnd, nonBlank}
 use Rattle.fields.proofs.Marks.{in-more, marked-inside, mark-at, length-marks}
-use Rattle.fields.proofs.Fields.{field-ends}
+use Rattle.fields.proofs.Fields.{Ends, field-ends}
 use Rattle.replies.specs.Replies.{bit, fieldText, joined, fieldsReply, through, rowReply, blockReply}
-use Rattle.replies.proofs.Writing.{Writing, none-yet, left-is, one-more, many-more}
+use Rattle.replies.proofs.Writing.{Writing, none-yet, left-is, one-more, many-more, all-written, written-next}
 
 -- ---- what is left to send from cell i on, which lies in no field that began before it; `some` says whether a field came already
 -- the separator, where a field came already
@@ -136,11 +137,11 @@ pub record Sending (chars attrs xs : List ℕ) (at : ℕ) (ys : List ℕ) (n i :
   pub size : length ys ≡ length xs
   pub writes : Writing xs at (fieldsReply chars attrs) ys n (fieldsLeft chars attrs i some)
 
--- a field begins: its cells, up to `end`, go into the reply from byte n on
-pub record Starting (chars attrs xs : List ℕ) (at : ℕ) (ys : List ℕ) (n i end : ℕ) : Type 0 where
-  pub part : length (take (end - i) (drop i chars)) ≡ end - i
-  pub room : n + (end - i) < length ys
-  pub writes : Writing xs at (fieldsReply chars attrs) ys n (take (end - i) (drop i chars) ++ fieldsLeft chars attrs end true)
+-- a field begins: its text goes into the reply from byte n on
+pub record Starting (chars attrs xs : List ℕ) (at : ℕ) (ys : List ℕ) (n i : ℕ) : Type 0 where
+  pub part : length (fieldText chars (marks attrs) i) ≡ fieldEnd (marks attrs) i - i
+  pub room : n + length (fieldText chars (marks attrs) i) < length ys
+  pub writes : Writing xs at (fieldsReply chars attrs) ys n (fieldText chars (marks attrs) i ++ fieldsLeft chars attrs (fieldEnd (marks attrs) i) true)
 
 module _ {chars attrs xs : List ℕ} {at : ℕ} where
   sends :
@@ -161,33 +162,99 @@ module _ {chars attrs xs : List ℕ} {at : ℕ} where
     pub send-other : isIn 4 (markOf (getD attrs i 0)) ≡ false → Sending chars attrs xs at ys n (i + 1) some
     send-other t = sends (s .alike) (s .whole) (left-is (s .writes) (left-other chars attrs i some t))
 
-    -- a field starts: the separator, where a field came already, and then its cells
+    -- a field starts: the separator, where a field came already, and then its text
     pub send-start :
-        {zs : List ℕ} {m end : ℕ} → i < length attrs → isIn 4 (markOf (getD attrs i 0)) ≡ true → end ≡ fieldEnd (marks attrs) i →
-        ((some ≡ true) × (zs ≡ set ys n 31) × (m ≡ n + 1)) ⊎ ((some ≡ false) × (zs ≡ ys) × (m ≡ n)) → Starting chars attrs xs at zs m i end
-    send-start {end = end} h t e =
+        {zs : List ℕ} {m : ℕ} → i < length attrs → isIn 4 (markOf (getD attrs i 0)) ≡ true →
+        ((some ≡ true) × (zs ≡ set ys n 31) × (m ≡ n + 1)) ⊎ ((some ≡ false) × (zs ≡ ys) × (m ≡ n)) → Starting chars attrs xs at zs m i
+    unfolding fieldText
+    send-start h t =
         ⊎-elim
-        (λ o. rw (o .1, o .2) (begun (one-more (left-is (s .writes) (left-field chars attrs i some t e ∙ rw (o .0, sym cut) refl)))))
-        (λ o. rw (o .1, o .2) (begun (left-is (s .writes) (left-field chars attrs i some t e ∙ rw (o .0, sym cut) refl))))
+        (λ o. rw (o .1, o .2) (begun (one-more (left-is (s .writes) (left-field chars attrs i some t refl ∙ rw (o .0) refl)))))
+        (λ o. rw (o .1, o .2) (begun (left-is (s .writes) (left-field chars attrs i some t refl ∙ rw (o .0) refl))))
       where
-        w : (i < end) × (end ≤ length attrs)
-        w = field-in attrs i e (s .whole) h
+        end : ℕ
+        end = fieldEnd (marks attrs) i
 
-        cut : take (end - i) (drop i chars) ≡ slice i end chars
-        cut = part-slice chars i end (omega (arith, w)) (omega (arith, s .alike, w))
-
-        begun : {zs : List ℕ} {m : ℕ} → Writing xs at (fieldsReply chars attrs) zs m (take (end - i) (drop i chars) ++ fieldsLeft chars attrs end true) → Starting chars attrs xs at zs m i end
+        begun : {zs : List ℕ} {m : ℕ} → Writing xs at (fieldsReply chars attrs) zs m (slice i end chars ++ fieldsLeft chars attrs end true) → Starting chars attrs xs at zs m i
         begun v =
-            let p = length-part chars i end (omega (arith, s .alike, w)) in
+            let w = field-in attrs i {end = end} refl (s .whole) h in
+            let p : length (slice i end chars) ≡ end - i = length-slice i end chars (omega (arith, s .alike, w)) in
             record {
               part = p;
-              room = omega (arith, v .room, left-more chars attrs end true, length-append (take (end - i) (drop i chars)) (fieldsLeft chars attrs end true));
+              room = omega (arith, v .room, left-more chars attrs end true, length-append (slice i end chars) (fieldsLeft chars attrs end true));
               writes = v;
             }
 
-    -- the field's cells are written, and what is left goes on at its end
-    pub send-field : {zs vs : List ℕ} {m end : ℕ} → Starting chars attrs xs at zs m i end → vs ≡ written zs m (take (end - i) (drop i chars)) → Sending chars attrs xs at vs (m + (end - i)) end true
-    send-field {m = m} {end = end} w e = sends (s .alike) (s .whole) (many-more (take (end - i) (drop i chars)) (w .writes) e (ap (λ (l : ℕ). m + l) (sym (w .part))))
+    -- the field's text is written, and what is left goes on at its end
+    pub send-on :
+        {zs vs : List ℕ} {m end : ℕ} → Starting chars attrs xs at zs m i → end ≡ fieldEnd (marks attrs) i → vs ≡ written zs m (fieldText chars (marks attrs) i) →
+        Sending chars attrs xs at vs (m + (end - i)) end true
+    send-on {m = m} w e v = rw e (sends (s .alike) (s .whole) (many-more (fieldText chars (marks attrs) i) (w .writes) v (ap (λ (l : ℕ). m + l) (sym (w .part)))))
+
+-- ---- one field: its first cell, and then a cell more, up to its end
+slice-next : (xs : List ℕ) (from to : ℕ) → from < to → from < length xs → slice from to xs ≡ getD xs from 0 ∷ slice (from + 1) to xs
+slice-next xs from to h l =
+    let e : suc from ≡ from + 1 = omega arith in
+    drop-cons (take to xs) from 0 (omega (arith, length-take to xs)) ∙ ap₂ (λ (v n : ℕ). v ∷ slice n to xs) (getD-take to xs from 0 h) e
+
+-- from cell i on the field's text is still to be written
+pub record Copying (chars attrs : List ℕ) (from : ℕ) (xs : List ℕ) (at : ℕ) (ys : List ℕ) (n i : ℕ) : Type 0 where
+  pub low : from < i
+  pub high : i ≤ fieldEnd (marks attrs) from
+  pub writes : Writing xs at (slice (from + 1) (fieldEnd (marks attrs) from) chars) ys n (slice i (fieldEnd (marks attrs) from) chars)
+
+module _ (chars attrs : List ℕ) (from : ℕ) (alike : length chars ≡ length attrs) (inside : endOfRow from ≤ length attrs) where
+  abbrev end : ℕ
+  end = fieldEnd (marks attrs) from
+
+  ends : Ends (marks attrs) from end
+  ends = field-ends (marks attrs) from
+
+  -- its text is its first cell and the others
+  pub copy-first : fieldText chars (marks attrs) from ≡ getD chars from 0 ∷ slice (from + 1) end chars
+  unfolding fieldText
+  copy-first = slice-next chars from end (ends .past) (omega arith)
+
+  pub copy-size : length (fieldText chars (marks attrs) from) ≡ 1 + length (slice (from + 1) end chars)
+  copy-size = omega (arith, ap length copy-first)
+
+  pub copy-begin : {xs : List ℕ} {at : ℕ} → at + length (slice (from + 1) end chars) ≤ length xs → Copying chars attrs from xs at xs at (from + 1)
+  copy-begin r = record { low = omega arith; high = omega (arith, ends .past); writes = none-yet r }
+
+  module _ {xs : List ℕ} {at : ℕ} {ys : List ℕ} {n i : ℕ} (c : Copying chars attrs from xs at ys n i) where
+    -- a cell without a mark belongs to the field
+    copy-in : i < endOfRow from → isIn 5 (markOf (getD attrs i 0)) ≡ false → i < end
+    copy-in h f = go (decLt i end)
+      where
+        go : Dec (i < end) → i < end
+        go (yes l) = l
+        go (no l) =
+            let e : end ≡ i = omega (arith, c .high) in
+            absurd (not-both (ap (isIn 5) (sym (mark-at attrs i)) ∙ rw e at ends .stop (omega arith)) f)
+
+    next-left : i < endOfRow from → isIn 5 (markOf (getD attrs i 0)) ≡ false → Writing xs at (slice (from + 1) end chars) ys n (getD chars i 0 ∷ slice (i + 1) end chars)
+    next-left h f = left-is (c .writes) (slice-next chars i end (copy-in h f) (omega arith))
+
+    pub copy-room : i < endOfRow from → isIn 5 (markOf (getD attrs i 0)) ≡ false → n < length ys
+    copy-room h f = omega (arith, next-left h f .room)
+
+    pub copy-next : i < endOfRow from → isIn 5 (markOf (getD attrs i 0)) ≡ false → Copying chars attrs from xs at (set ys n (getD chars i 0)) (n + 1) (i + 1)
+    copy-next h f = record { low = omega (arith, c .low); high = omega (arith, copy-in h f); writes = one-more (next-left h f) }
+
+    -- the field ends at a mark, and at its row's end
+    pub copy-end : (i < endOfRow from → isIn 5 (markOf (getD attrs i 0)) ≡ true) → i ≡ end
+    copy-end f = go (decLt i end)
+      where
+        go : Dec (i < end) → i ≡ end
+        go (yes l) = absurd (not-both (f (omega (arith, ends .within))) (ap (isIn 5) (sym (mark-at attrs i)) ∙ ends .none i (c .low) l))
+        go (no l) = omega (arith, c .high)
+
+    copy-done : i ≡ end → ys ≡ written xs at (slice (from + 1) end chars)
+    copy-done e = all-written (left-is (c .writes) (drop-of-length-le (take end chars) {i = i} (omega (arith, length-take end chars))))
+
+  -- the first cell and the others are written
+  pub copy-all : (xs : List ℕ) (at : ℕ) {ys : List ℕ} {n i : ℕ} → at < length xs → Copying chars attrs from (set xs at (getD chars from 0)) (at + 1) ys n i → i ≡ end → ys ≡ written xs at (fieldText chars (marks attrs) from)
+  copy-all xs at h c e = copy-done c e ∙ written-next xs at (getD chars from 0) (slice (from + 1) end chars) h ∙ ap (written xs at) (sym copy-first)
 
 -- ---- the row: it is sent up to the cell past its last non-blank, and that lies in the row
 abbrev pub rowThrough : List ℕ → ℕ → ℕ

@@ -1,11 +1,11 @@
 // The replies, byte by byte. A reply's length is told before it is sent.
 ghost use mathlib.Core.Path.{_≡_};
-ghost use Prim.Native.Nat.{_+_, _*_, _%_, _≤_, _<_};
+ghost use Prim.Native.Nat.{_+_, _*_, _/_, _%_, _≤_, _<_};
 ghost use lib.ListN.{length};
 ghost use Rattle.cells.specs.Search.{lastIn};
 ghost use Rattle.cells.specs.Memory.{written};
-ghost use Rattle.fields.specs.Fields.{markOf, isIn, nonBlank};
-ghost use Rattle.replies.specs.Replies.{cursorReply, bit, statusReply, fieldsReply, through, rowReply, blockReply};
+ghost use Rattle.fields.specs.Fields.{markOf, marks, isIn, fieldEnd, nonBlank};
+ghost use Rattle.replies.specs.Replies.{cursorReply, bit, statusReply, fieldText, fieldsReply, through, rowReply, blockReply};
 use cells::Found;
 
 fn digit(n: usize) -> u8
@@ -79,6 +79,27 @@ fn measure_fields(chars: &[u8], attrs: &[u8]) -> usize
     n
 }
 
+// The field that starts at cell `from`, whole, from byte `at` of the reply on; the cell past its last. Each cell is looked at once.
+fn send_field(chars: &[u8], attrs: &[u8], from: usize, reply: &mut [u8], at: usize) -> usize
+    requires { ⌜ (length (now chars) ≡ length (now attrs)) × (from / 80 * 80 + 80 ≤ length (now attrs)) ⌝ ∗ ⌜ at + length (fieldText (now chars) (marks (now attrs)) from) ≤ length (now reply) ⌝ }
+    ensures { λ r. ⌜ r ≡ fieldEnd (marks (now (attrs .entry))) from ⌝ }
+    ensures { λ r. ⌜ now (reply .exit) ≡ written (now (reply .entry)) at (fieldText (now (chars .entry)) (marks (now (attrs .entry))) from) ⌝ }
+{
+    let end = from / 80 * 80 + 80;
+    reply[at] = chars[from];
+    let mut n = at + 1;
+    let mut i = from + 1;
+    while i < end {
+        if fields::has_mark(attrs[i], 5) {
+            return i;
+        }
+        reply[n] = chars[i];
+        n += 1;
+        i += 1;
+    }
+    i
+}
+
 // All fields of marks 1 to 4, from byte `at` of the reply on; the place past the last byte.
 fn send_fields(chars: &[u8], attrs: &[u8], reply: &mut [u8], at: usize) -> usize
     requires { ⌜ (length (now chars) ≡ length (now attrs)) × (length (now attrs) % 80 ≡ 0) ⌝ ∗ ⌜ at + length (fieldsReply (now chars) (now attrs)) ≤ length (now reply) ⌝ }
@@ -95,8 +116,7 @@ fn send_fields(chars: &[u8], attrs: &[u8], reply: &mut [u8], at: usize) -> usize
                 n += 1;
             }
             some = true;
-            let end = fields::field_end(attrs, i);
-            cells::write_at(reply, n, &chars[i..end]);
+            let end = send_field(chars, attrs, i, reply, n);
             n += end - i;
             i = end;
         } else {

@@ -6,7 +6,7 @@ use native.Mathlib.Omega.{arith}
 use borrow.Author.Needs.{needs}
 use lib.ListN.{length, length-set}
 use Rattle.replies.proofs.Writing.{all-written, all-ends}
-use Rattle.replies.proofs.Blocks.{Sending, field-in, send-begin, send-start, send-field, send-other, send-end}
+use Rattle.replies.proofs.Blocks.{Sending, field-in, send-begin, send-start, send-on, send-other, send-end}
 use Rattle.replies.proofs.send_fields.Statement.{statement}
 use Rattle.replies.proofs.send_fields.Tie as tie
 
@@ -25,27 +25,23 @@ send-fields-spec =
     (λ c κs. search needs)
     (λ c. omega arith)
     (λ c. omega arith)
-    (λ c κs. omega arith)
-    (λ c. omega (arith, field-in _ _ (c .before .field-end .ensures) (omega arith) (omega arith)))
-    (λ c. omega (arith, field-in _ _ (c .before .field-end .ensures) (omega arith) (omega arith)))
-    (λ c. omega (arith, field-in _ _ (c .before .field-end .ensures) (omega arith) (omega arith)))
     (λ c κs.
-    let f = c .before .before in
-    let t = sym (f .before .before .before .is-sent .ensures) ∙ f .before .before .if1 .taken in
-    let w = send-start (f .before .before .before .before .before .before .loop .inv) (omega arith) t (f .field-end .ensures) (⊎-elim (λ v. inl (v .0 .taken, v .1, v .2)) (λ v. inr (v .0 .left, v .1, v .2)) (f .before .if2 .came)) in
-    omega (arith, w .part, w .room))
-    (λ c. omega (arith, field-in _ _ (c .before .before .before .before .before .field-end .ensures) (omega arith) (omega arith)))
+    let f = c .before in
+    let t = sym (f .before .before .is-sent .ensures) ∙ f .before .if1 .taken in
+    let w = send-start (f .before .before .before .before .before .loop .inv) (omega arith) t (⊎-elim (λ v. inl (v .0 .taken, v .1, v .2)) (λ v. inr (v .0 .left, v .1, v .2)) (f .if2 .came)) in
+    ((omega arith, omega arith), omega (arith, w .room)))
+    (λ c. omega (arith, field-in _ _ (c .before .before .send-field .ensures .0) (omega arith) (omega arith)))
     (λ c.
-    let f = c .before .before .before .before .before .before in
-    let t = sym (f .before .before .before .is-sent .ensures) ∙ f .before .before .if1 .taken in
-    let w = send-start (f .before .before .before .before .before .before .loop .inv) (omega arith) t (f .field-end .ensures) (⊎-elim (λ v. inl (v .0 .taken, v .1, v .2)) (λ v. inr (v .0 .left, v .1, v .2)) (f .before .if2 .came)) in
-    omega (arith, w .room, w .writes .size))
-    (λ c. omega (arith, field-in _ _ (c .before .before .before .before .before .before .field-end .ensures) (omega arith) (omega arith)))
+    let f = c .before .before .before .before .before in
+    let t = sym (f .before .before .is-sent .ensures) ∙ f .before .if1 .taken in
+    let w = send-start (f .before .before .before .before .before .loop .inv) (omega arith) t (⊎-elim (λ v. inl (v .0 .taken, v .1, v .2)) (λ v. inr (v .0 .left, v .1, v .2)) (f .if2 .came)) in
+    omega (arith, w .part, w .room, w .writes .size, f .before .before .before .before .before .loop .inv .size, field-in _ _ (c .before .before .before .send-field .ensures .0) (omega arith) (omega arith)))
+    (λ c. omega (arith, field-in _ _ (c .before .before .before .send-field .ensures .0) (omega arith) (omega arith)))
     (λ c.
-    let f = c .before .before .before .before .before .before in
-    let t = sym (f .before .before .before .is-sent .ensures) ∙ f .before .before .if1 .taken in
-    let w = send-start (f .before .before .before .before .before .before .loop .inv) (omega arith) t (f .field-end .ensures) (⊎-elim (λ v. inl (v .0 .taken, v .1, v .2)) (λ v. inr (v .0 .left, v .1, v .2)) (f .before .if2 .came)) in
-    send-field (f .before .before .before .before .before .before .loop .inv) w (c .before .before .before .write-at .ensures))
+    let f = c .before .before .before .before .before in
+    let t = sym (f .before .before .is-sent .ensures) ∙ f .before .if1 .taken in
+    let w = send-start (f .before .before .before .before .before .loop .inv) (omega arith) t (⊎-elim (λ v. inl (v .0 .taken, v .1, v .2)) (λ v. inr (v .0 .left, v .1, v .2)) (f .if2 .came)) in
+    send-on (f .before .before .before .before .before .loop .inv) w (c .before .before .before .send-field .ensures .0) (c .before .before .before .send-field .ensures .1))
     (λ c. omega arith)
     (λ c. omega arith)
     (λ c. send-other (c .before .before .before .before .loop .inv) (sym (c .before .is-sent .ensures) ∙ c .if1 .left))
