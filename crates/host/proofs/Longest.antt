@@ -19,12 +19,11 @@ use Rattle.host.proofs.Steps.{fed-on}
 use Rattle.host.proofs.Kept.{fedOn-number}
 
 module _ {rows : ℕ} {w : World} (s : Sound rows w) where
-  pub answer-longest : (byte : ℕ) → length (answerTo byte w) ≤ rows * 160
-  unfolding answerTo replyTo pendingReply
-  answer-longest byte =
+  pub reply-longest : (a : ℕ) → length (replyTo a w) ≤ rows * 160
+  unfolding replyTo pendingReply
+  reply-longest a =
       let P : List ℕ → Type 0 = λ xs. length xs ≤ rows * 160 in
       let t = w .state in
-      let a = actionFor t byte in
       let c = t .cursor in
       let room : c .row < rows = omega (arith, s .good .place) in
       either P (eqb a Action.ack) (omega arith)
@@ -34,6 +33,10 @@ module _ {rows : ℕ} {w : World} (s : Sound rows w) where
       (either P (eqb (t .pending) 3) (omega (arith, status-length (t .format) (t .insert) (t .lock)))
       (either P (eqb (t .pending) 4) (omega (arith, block-longest (w .chars) (c .row) (omega (arith, s .chars-long)) (t .format) (w .attrs) (s .chars-long ∙ sym (s .attrs-long)), s .chars-long)) (omega arith)))))
       (omega arith))
+
+  pub answer-longest : (byte : ℕ) → length (answerTo byte w) ≤ rows * 160
+  unfolding answerTo
+  answer-longest byte = reply-longest (actionFor (w .state) byte)
 
   on-takes : (bytes reply : List ℕ) → length reply ≡ rows * 160 → fedOn rows bytes 0 0 w reply .number ≡ 7 → 0 < fedOn rows bytes 0 0 w reply .taken
   unfolding fedOn

@@ -3,6 +3,7 @@ ghost use mathlib.Core.Path.{_≡_};
 ghost use Prim.Native.Nat.{_+_, _≤_, _<_};
 ghost use mathlib.Core.Bool.{true};
 ghost use lib.ListN.{length, getD, drop};
+ghost use lib.Dec.{leb};
 ghost use Rattle.cells.specs.Memory.{written};
 ghost use Rattle.cursor.specs.Cursor.{InPlace};
 ghost use Rattle.reading.specs.Reading.{Tabled, SoundNumber};
@@ -84,6 +85,17 @@ fn measure(t: Terminal, rows: usize, chars: &[u8], attrs: &[u8], a: u8) -> usize
         return measure_pending(t, rows, chars, attrs);
     }
     0
+}
+
+// Whether what an action sends fits into `room` bytes: room for the longest reply is told without measuring.
+fn has_room(t: Terminal, rows: usize, chars: &[u8], attrs: &[u8], a: u8, room: usize) -> bool
+    requires { ⌜ Sound rows (world t (now chars) (now attrs)) ⌝ }
+    ensures { λ r. ⌜ r ≡ leb (length (replyTo a (world t (now (chars .entry)) (now (attrs .entry))))) room ⌝ }
+{
+    if rows * 160 <= room {
+        return true;
+    }
+    measure(t, rows, chars, attrs, a) <= room
 }
 
 // The pending transfer's reply, from byte `at` of the reply on; the place past the last byte.
@@ -294,7 +306,7 @@ fn feed_on(
             continue;
         }
         let a = action_for(u, &table, b);
-        if reply.len() - at < measure(u, rows, chars, attrs, a) {
+        if !has_room(u, rows, chars, attrs, a, reply.len() - at) {
             return HostAnswer {
                 number: 7,
                 taken: i,

@@ -1,4 +1,4 @@
--- `host::run` meets its contract. The loop's invariant: the world is sound, the bytes sent fit, and the bytes left, run from here, leave what all bytes leave from the start.
+-- `host::feed_on` meets its contract. The loop's invariant: the world is sound, the bytes sent fit, and the bytes left, run from here, leave what all bytes leave from the start.
 -- A run of text, the bytes of sequences, and any other byte each keep it. The measure is what is left of the bytes. Assumes nothing.
 use Rattle.host.proofs.Streams.{fedOn-turn, fedOn-stop, fedOn-end}
 use Rattle.host.proofs.Kept.{stepped-by-sound, sound-by}
@@ -6,6 +6,7 @@ use Rattle.host.proofs.Runs.{free-in, text-turn}
 use Rattle.host.proofs.Sequences.{follow-on}
 use Rattle.cursor.proofs.Place.{row-in}
 use borrow.Author.Needs.{needs}
+use borrow.Author.Tests.{not-true, not-false, leb-true, leb-false}
 use lib.ListN.{length, drop}
 use native.Mathlib.Omega.{arith}
 use mathlib.Core.Path.{_≡_, refl, sym, ap, _∙_}
@@ -66,7 +67,7 @@ feed-on-spec =
     let f = follow-on (a .rows) (a .bytes .now) (l .at) (l .reply) (l .inv .1) (l .i) (world (l .u) (l .chars) (l .attrs)) (l .inv .0) (l .inv .3) (c .before .before .before .before .follow .ensures) in
     (f .upto, l .inv .1, l .inv .2, f .sound, f .same ∙ l .inv .4))
     (λ c κs. (c .before .before .before .before .before .before .before .before .before .loop .inv .3 .good .reading-in, c .before .before .before .before .before .before .before .before .before .before .actions .ensures))
-    (λ c. omega (arith, c .before .before .before .before .before .before .before .before .before .before .loop .inv .1))
+    (λ c. omega (arith, c .before .before .before .before .before .before .before .before .before .before .before .before .loop .inv .1))
     (λ c κs. c .before .before .before .before .before .before .before .before .before .before .before .before .loop .inv .3)
     (λ c. c .before .before .before .before .before .before .before .before .before .before .before .before .before .before .loop .inv .3 .chars-long ∙ sym (c .before .before .before .before .before .before .before .before .before .before .before .before .before .before .before .before .before .before .before .before .pre .chars-long))
     (λ c. c .before .before .before .before .before .before .before .before .before .before .before .before .before .before .loop .inv .3 .attrs-long ∙ sym (c .before .before .before .before .before .before .before .before .before .before .before .before .before .before .before .before .before .before .before .before .pre .attrs-long))
@@ -75,8 +76,11 @@ feed-on-spec =
     let l = c .before .before .before .before .before .before .before .before .before .before .before .before .before .before .loop in
     let a = c .before .before .before .before .before .before .before .before .before .before .before .before .before .before .before .before .before .before .before .before .args in
     let w = world (l .u) (l .chars) (l .attrs) in
-    fedOn-stop (a .rows) (a .bytes .now) (l .i) (l .at) w (l .reply) (omega (arith, c .before .before .before .before .before .before .before .before .before .before .before .before .before .loop-test)) (c .before .before .before .before .action-for .ensures) (omega (arith, c .if3 .taken, c .before .measure .ensures, l .inv .1)) ∙ l .inv .4)
-    (λ c κs. (c .before .before .before .before .before .before .before .before .before .before .before .before .before .before .before .before .before .loop .inv .3, omega (arith, c .before .before .before .before .measure .ensures, c .before .before .before .if3 .left, c .before .before .before .before .before .before .before .before .before .before .before .before .before .before .before .before .before .loop .inv .1)))
+    fedOn-stop (a .rows) (a .bytes .now) (l .i) (l .at) w (l .reply) (omega (arith, c .before .before .before .before .before .before .before .before .before .before .before .before .before .loop-test)) (c .before .before .before .before .action-for .ensures) (omega (arith, leb-false (length (replyTo (c .before .before .before .before .action-for .result) w)) (length (l .reply) - l .at) (sym (c .before .has-room .ensures) ∙ not-true _ (c .if3 .taken)), l .inv .1)) ∙ l .inv .4)
+    (λ c κs.
+    let l = c .before .before .before .before .before .before .before .before .before .before .before .before .before .before .before .before .before .loop in
+    let w = world (l .u) (l .chars) (l .attrs) in
+    (l .inv .3, omega (arith, leb-true (length (replyTo (c .before .before .before .before .before .before .before .action-for .result) w)) (length (l .reply) - l .at) (sym (c .before .before .before .before .has-room .ensures) ∙ not-false _ (c .before .before .before .if3 .left)), l .inv .1)))
     (λ c κs. c .before .before .before .before .before .before .before .before .before .before .before .before .before .before .before .before .before .before .before .before .before .before .loop .inv .3)
     (λ c. omega (arith, c .before .before .before .before .before .before .before .before .before .before .before .before .before .before .before .before .before .before .before .before .before .before .before .before .before .before .loop-test, c .before .before .before .before .before .before .before .before .before .before .before .before .before .before .before .before .before .before .before .before .before .before .before .before .before .before .before .before .before .before .before .before .before))
     (λ c. omega (arith, c .before .before .before .before .before .before .before .before .before .before .before .before .before .before .before .before .before .before .before .before .before .before .before .before .before .before .loop-test))
@@ -88,7 +92,7 @@ feed-on-spec =
     let l = tested .before .loop in
     let a = tested .before .before .before .before .before .before .before .args in
     let w = world (l .u) (l .chars) (l .attrs) in
-    let fits : l .at + length (replyTo (chosen .action-for .result) w) ≤ length (l .reply) = omega (arith, measured .measure .ensures, sent .before .before .before .before .if3 .left, l .inv .1) in (
+    let fits : l .at + length (replyTo (chosen .action-for .result) w) ≤ length (l .reply) = omega (arith, leb-true (length (replyTo (chosen .action-for .result) w)) (length (l .reply) - l .at) (sym (measured .has-room .ensures) ∙ not-false _ (sent .before .before .before .before .if3 .left)), l .inv .1) in (
       omega (arith, tested .loop-test),
       omega (arith, sent .send .ensures .0, sent .send .kept .1 .1 .1 .1 .1 .0, fits),
       sent .send .kept .1 .1 .1 .1 .1 .0 ∙ l .inv .2,
