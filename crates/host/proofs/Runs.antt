@@ -224,32 +224,27 @@ module _ (rows : ℕ) (bytes : List ℕ) (i at : ℕ) (w : World) (reply : List 
 at-one : (P : ℕ → Type 0) {a : ℕ} (k : ℕ) → k ≤ a → P k → (suc k ≤ a → P a) → P a
 at-one P {a} k l p q = elim (eq-or a k) [ inl e ↦ rw e p | inr h ↦ q (omega arith) ]
 
+-- what holds at each of them, in their order, holds at any
+pub each : (P : ℕ → Type 0) → P Action.rest → P Action.esc → P Action.toGroup → P Action.toSet → P Action.toCursor → P Action.toEnhance → P Action.toOther → P Action.plus → P Action.minus → P Action.digit → P Action.columnOn → P Action.columnEnd → P Action.rowOn → P Action.rowEnd → P Action.windowOn → P Action.windowEnd → P Action.stay → (a : ℕ) → inSequence a ≡ true → P a
+unfolding inSequence
+each P p0 p1 p46 p47 p48 p49 p50 p51 p52 p53 p54 p55 p56 p57 p58 p59 p60 a e =
+    elim (lt-or 1 a) [
+      | inl h ↦ (
+          let x = and-eq-true-iff (leb 46 a) _ .0 (or-right (leb a 1) _ e (lt-leb a 1 h)) in
+          at-one P 46 (leb-true _ _ (x .0)) p46 (λ a46. at-one P 47 a46 p47 (λ a47. at-one P 48 a47 p48 (λ a48. at-one P 49 a48 p49 (λ a49. at-one P 50 a49 p50 (λ a50.
+          at-one P 51 a50 p51 (λ a51. at-one P 52 a51 p52 (λ a52. at-one P 53 a52 p53 (λ a53. at-one P 54 a53 p54 (λ a54. at-one P 55 a54 p55 (λ a55.
+          at-one P 56 a55 p56 (λ a56. at-one P 57 a56 p57 (λ a57. at-one P 58 a57 p58 (λ a58. at-one P 59 a58 p59 (λ a59. at-one P 60 a59 p60 (λ a60. absurd (omega (arith, leb-true a 60 (x .1)))))))))))))))))))
+      | inr h ↦ at-one P 0 (omega arith) p0 (λ a0. at-one P 1 a0 p1 (λ a1. absurd (omega arith)))
+    ]
+
 module _ (rows a v : ℕ) (w : World) where
   -- the action changes the cursor alone
   abbrev Addresses : ℕ → Type 0
   Addresses k = acted rows k v w ≡ stated w (placed (w .state) (addressed rows k (w .state .number) (w .state .cursor)))
 
-  addresses-first : a ≤ 1 → Addresses a
-  unfolding acted stamps steered switched addressed
-  addresses-first h = at-one Addresses {a = a} 0 (omega arith) refl (λ p. at-one Addresses 1 p refl (λ q. absurd (omega arith)))
-
-  addresses-among : 46 ≤ a → a ≤ 60 → Addresses a
-  unfolding acted stamps steered switched addressed
-  addresses-among h l =
-      at-one Addresses 46 h refl (λ a46. at-one Addresses 47 a46 refl (λ a47. at-one Addresses 48 a47 refl (λ a48. at-one Addresses 49 a48 refl (λ a49.
-      at-one Addresses 50 a49 refl (λ a50. at-one Addresses 51 a50 refl (λ a51. at-one Addresses 52 a51 refl (λ a52. at-one Addresses 53 a52 refl (λ a53.
-      at-one Addresses 54 a53 refl (λ a54. at-one Addresses 55 a54 refl (λ a55. at-one Addresses 56 a55 refl (λ a56. at-one Addresses 57 a56 refl (λ a57.
-      at-one Addresses 58 a57 refl (λ a58. at-one Addresses 59 a58 refl (λ a59. at-one Addresses 60 a59 refl (λ a60. absurd (omega arith))))))))))))))))
-
   addresses : inSequence a ≡ true → Addresses a
-  unfolding inSequence
-  addresses e =
-      elim (lt-or 1 a) [
-        | inl h ↦ (
-            let x = and-eq-true-iff (leb 46 a) _ .0 (or-right (leb a 1) _ e (lt-leb a 1 h)) in
-            addresses-among (leb-true _ _ (x .0)) (leb-true _ _ (x .1)))
-        | inr h ↦ addresses-first h
-      ]
+  unfolding acted stamps steered switched addressed
+  addresses = each Addresses refl refl refl refl refl refl refl refl refl refl refl refl refl refl refl refl refl a
 
   -- and sends nothing
   unsent : inSequence a ≡ true → replyTo a w ≡ []

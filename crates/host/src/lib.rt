@@ -6,11 +6,11 @@ ghost use lib.ListN.{length, getD, drop};
 ghost use lib.Dec.{leb};
 ghost use Rattle.cells.specs.Memory.{written};
 ghost use Rattle.cursor.specs.Cursor.{InPlace};
-ghost use Rattle.reading.specs.Reading.{Tabled, SoundNumber};
+ghost use Rattle.reading.specs.Reading.{Tabled, clear, settled, counted, nextReading, SoundNumber};
 ghost use Rattle.terminal.specs.State.{world, Sound};
 ghost use Rattle.host.specs.Streams.{actionFor, readOn, steppedBy, pendingReply, replyTo, hostLeft, fedOn, fed};
 ghost use Rattle.host.specs.Texts.{isText, typesFreely, Copied};
-ghost use Rattle.host.specs.Sequences.{inSequence, addressed, followed};
+ghost use Rattle.host.specs.Sequences.{reader, turned, followed};
 use cursor::Cursor;
 use reading::Number;
 use terminal::Terminal;
@@ -164,31 +164,70 @@ fn is_text(byte: u8) -> bool
     cells::is_within(32, 126, byte % 128)
 }
 
-// Whether an action is of a sequence, or rests: it changes the cursor, the reading state and the number alone, and sends nothing.
-fn is_in_sequence(a: u8) -> bool
-    ensures { λ r. ⌜ r ≡ inSequence a ⌝ }
+// The reader where neither sign nor digit came yet.
+fn begin_number(c: Cursor, reading: u8, at: usize) -> Reader
+    ensures { λ r. ⌜ r ≡ reader c clear reading at ⌝ }
 {
-    if a <= reading::ESC {
-        return true;
+    Reader {
+        cursor: c,
+        number: Number {
+            sign: 0,
+            digit: false,
+            value: 0,
+        },
+        reading: reading,
+        at: at,
     }
-    cells::is_within(reading::TO_GROUP, reading::STAY, a)
 }
 
-// The cursor after such an action.
-fn address(c: Cursor, rows: usize, a: u8, n: Number) -> Cursor
-    requires { ⌜ (rows ≤ 96) × (n .value ≤ 999) ⌝ ∗ ⌜ InPlace rows c ⌝ }
-    ensures { λ r. ⌜ r ≡ addressed rows a n c ⌝ }
+// The reader after a sign: the first begins the number, another ends the sequence.
+fn sign(r: Reader, a: u8, b: u8, next: usize) -> Reader
+    requires { ⌜ r .number .value ≤ 999 ⌝ }
+    ensures { λ q. ⌜ q ≡ reader (r .cursor) (counted (settled a (r .number)) b (r .number)) (nextReading (settled a (r .number))) next ⌝ }
 {
-    if cells::is_within(reading::COLUMN_ON, reading::COLUMN_END, a) {
-        return c.to_column(n.sign, n.value);
+    let c = r.cursor;
+    let n = r.number;
+    let s = n.settle(a);
+    Reader {
+        cursor: c,
+        number: n.count(s, b),
+        reading: reading::next_reading(s),
+        at: next,
     }
-    if cells::is_within(reading::ROW_ON, reading::ROW_END, a) {
-        return c.to_row(rows, n.sign, n.value);
+}
+
+// The reader after a byte: `a` its action in the table, `b` the byte below 128, `next` the place of the byte after it. A byte of no sequence leaves the reader as it is.
+fn turn(r: Reader, rows: usize, a: u8, b: u8, next: usize) -> Reader
+    requires { ⌜ (rows ≤ 96) × (r .number .value ≤ 999) ⌝ ∗ ⌜ InPlace rows (r .cursor) ⌝ }
+    ensures { λ q. ⌜ q ≡ turned rows a b next r ⌝ }
+{
+    let c = r.cursor;
+    let n = r.number;
+    match a {
+        reading::REST => begin_number(c, 0, next),
+        reading::ESC => begin_number(c, 1, next),
+        reading::TO_GROUP => begin_number(c, 2, next),
+        reading::TO_SET => begin_number(c, 6, next),
+        reading::TO_CURSOR => begin_number(c, 3, next),
+        reading::TO_ENHANCE => begin_number(c, 4, next),
+        reading::TO_OTHER => begin_number(c, 5, next),
+        reading::PLUS => sign(r, reading::PLUS, b, next),
+        reading::MINUS => sign(r, reading::MINUS, b, next),
+        reading::DIGIT => Reader {
+            cursor: c,
+            number: n.count(reading::DIGIT, b),
+            reading: 3,
+            at: next,
+        },
+        reading::COLUMN_ON => begin_number(c.to_column(n.sign, n.value), 3, next),
+        reading::COLUMN_END => begin_number(c.to_column(n.sign, n.value), 0, next),
+        reading::ROW_ON => begin_number(c.to_row(rows, n.sign, n.value), 3, next),
+        reading::ROW_END => begin_number(c.to_row(rows, n.sign, n.value), 0, next),
+        reading::WINDOW_ON => begin_number(c.to_window_row(rows, n.sign, n.value), 3, next),
+        reading::WINDOW_END => begin_number(c.to_window_row(rows, n.sign, n.value), 0, next),
+        reading::STAY => begin_number(c, 5, next),
+        _ => r,
     }
-    if cells::is_within(reading::WINDOW_ON, reading::WINDOW_END, a) {
-        return c.to_window_row(rows, n.sign, n.value);
-    }
-    c
 }
 
 // The bytes of sequences from byte `from` on, up to the first whose action is of none.
@@ -202,34 +241,25 @@ fn follow(
     from: usize,
 ) -> Reader
     requires { ⌜ (rows ≤ 96) × (s < 7) × (from ≤ length (now bytes)) ⌝ ∗ ⌜ SoundNumber s n ⌝ ∗ ⌜ InPlace rows c ⌝ ∗ ⌜ Tabled (now table) ⌝ }
-    ensures { λ r. ⌜ r ≡ followed rows (drop from (now (bytes .entry))) c n s from ⌝ }
+    ensures { λ r. ⌜ r ≡ followed rows (drop from (now (bytes .entry))) (reader c n s from) ⌝ }
 {
-    let mut cursor = c;
-    let mut number = n;
-    let mut state = s;
-    let mut i = from;
-    while i < bytes.len() {
+    let mut r = Reader {
+        cursor: c,
+        number: n,
+        reading: s,
+        at: from,
+    };
+    while r.at < bytes.len() {
+        let i = r.at;
         let byte = bytes[i];
-        let a = number.settle(reading::action(table, state, byte));
-        if !is_in_sequence(a) {
-            return Reader {
-                cursor: cursor,
-                number: number,
-                reading: state,
-                at: i,
-            };
+        let a = reading::action(table, r.reading, byte);
+        let q = turn(r, rows, a, byte % 128, i + 1);
+        if q.at == i {
+            return r;
         }
-        cursor = address(cursor, rows, a, number);
-        number = number.count(a, byte % 128);
-        state = reading::next_reading(a);
-        i += 1;
+        r = q;
     }
-    Reader {
-        cursor: cursor,
-        number: number,
-        reading: state,
-        at: i,
-    }
+    r
 }
 
 // Whether a byte is text that goes to the cursor's cell, and the cursor right.

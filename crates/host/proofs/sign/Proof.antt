@@ -1,0 +1,13 @@
+-- `host::sign` meets its contract: the sign settled, the number and the reading state after it. Assumes nothing.
+use borrow.Author.Needs.{needs}
+use Rattle.host.proofs.sign.Statement.{statement}
+use Rattle.host.proofs.sign.Tie as tie
+
+pub sign-spec : {M : Type 1} → statement M
+sign-spec =
+    tie.close
+    (tie.spec
+    (λ c κs. search needs)
+    (λ c κs. search needs)
+    (λ c κs. search needs)
+    (λ c. cc))
