@@ -23,13 +23,9 @@ text-not k code h e = let l = leb-true code 126 (and-eq-true-iff (leb 32 code) _
 pub text-not-zero : (code : ℕ) → within 32 126 code ≡ true → code ≡ 0 → ⊥
 text-not-zero code e z = let l = leb-true 32 code (and-eq-true-iff (leb 32 code) _ .0 e .0) in omega arith
 
--- ---- the state that an action gives, that of the cursor it gives, and the page that an edit gives
-module _ (t : Terminal) (chars attrs : List ℕ) where
-  pub moved : {c : Cursor} {u : Terminal} → u ≡ placed t c → world (placed t (u .cursor)) chars attrs ≡ world (placed t c) chars attrs
-  moved e = ap (λ (u : Terminal). world (placed t (u .cursor)) chars attrs) e
-
-  pub gone : {c r : Cursor} → r ≡ c → world (placed t r) chars attrs ≡ world (placed t c) chars attrs
-  gone e = ap (λ (c : Cursor). world (placed t c) chars attrs) e
+-- ---- the state with the cursor that a move gives, and with the page that an edit gives
+pub gone : (t : Terminal) (chars attrs : List ℕ) {c r : Cursor} → r ≡ c → world (placed t r) chars attrs ≡ world (placed t c) chars attrs
+gone t chars attrs e = ap (λ (c : Cursor). world (placed t c) chars attrs) e
 
 module _ (t : Terminal) where
   -- the page over the other parts of the state

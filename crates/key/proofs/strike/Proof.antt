@@ -6,10 +6,11 @@ use borrow.Author.Tests.{ne-eqb}
 use Rattle.reading.specs.Action as Action
 use Rattle.terminal.specs.State.{world}
 use Rattle.terminal.specs.Acts.{switched, steered, stamps, acted}
+use Rattle.cursor.proofs.Place.{row-in}
 use Rattle.terminal.proofs.Kept.{whole}
 use Rattle.key.specs.Keys.{keyAction}
 use Rattle.key.specs.Pressed.{pressed}
-use Rattle.key.proofs.Pressed.{text-not, text-not-zero, moved, gone, edited, typed-at, nothing-done, insert-over}
+use Rattle.key.proofs.Pressed.{text-not, text-not-zero, gone, edited, typed-at, nothing-done, insert-over}
 use Rattle.key.proofs.strike.Statement.{statement}
 use Rattle.key.proofs.strike.Tie as tie
 
@@ -60,8 +61,8 @@ strike-spec =
     text
     (λ c κs. search needs)
     (λ c κs. let s = c .before .before .before .before .before .pre (λ e. omega (arith, c .match .keys2)) in (omega (arith, s .good .place .top-in), s .few))
-    (λ c κs. let s = c .before .before .before .before .before .pre (λ e. omega (arith, c .match .keys3)) in (s .few, s .good .place))
-    (λ c κs. let s = c .before .before .before .before .before .pre (λ e. omega (arith, c .match .keys4)) in (s .few, s .good .place))
+    (λ c κs. let s = c .before .before .before .before .before .pre (λ e. omega (arith, c .match .keys3)) in (omega (arith, row-in (s .good .place), s .few), s .good .place .col-in, omega (arith, s .good .place .top-in), s .few))
+    (λ c κs. let s = c .before .before .before .before .before .pre (λ e. omega (arith, c .match .keys4)) in (omega (arith, row-in (s .good .place), s .few), s .good .place .col-in))
     (λ c κs. search needs)
     (λ c κs. let s = c .before .before .before .before .before .before .pre (λ e. omega (arith, c .before .match .keys6)) in omega (arith, s .good .place .top-in))
     (λ c κs. let s = c .before .before .before .before .before .before .pre (λ e. omega (arith, c .before .match .keys7)) in ((s .few, s .attrs-long), s .good .place))
@@ -71,17 +72,17 @@ strike-spec =
     (λ c κs. let s = c .before .before .before .before .before .before .before .pre (λ e. omega (arith, c .before .before .match .keys12)) in s)
     (λ c κs. search needs)
     (λ c κs. let s = c .before .before .before .before .before .pre (λ e. omega (arith, c .match .keys14)) in (s .few, s .good .place))
-    (λ c κs. let s = c .before .before .before .before .before .pre (λ e. omega (arith, c .match .keys15)) in s .good .place)
+    (λ c κs. let s = c .before .before .before .before .before .pre (λ e. omega (arith, c .match .keys15)) in s .good .place .low)
     (λ c κs. let s = c .before .before .before .before .before .pre (λ e. omega (arith, c .match .keys16)) in (s .few, s .good .place))
-    (λ c κs. let s = c .before .before .before .before .before .pre (λ e. omega (arith, c .match .keys17)) in s .good .place)
-    (λ c. rw (c .before .before .match .keys1) (moved (c .before .before .before .before .before .before .before .args .t) _ _ (c .before .move-up .ensures)))
-    (λ c. rw (c .before .before .match .keys2) (moved (c .before .before .before .before .before .before .before .args .t) _ _ (c .before .move-down .ensures)))
-    (λ c. rw (c .before .before .match .keys3) (moved (c .before .before .before .before .before .before .before .args .t) _ _ (c .before .move-right .ensures)))
-    (λ c. rw (c .before .before .match .keys4) (moved (c .before .before .before .before .before .before .before .args .t) _ _ (c .before .move-left .ensures)))
+    (λ c κs. let s = c .before .before .before .before .before .pre (λ e. omega (arith, c .match .keys17)) in s .good .place .low)
+    (λ c. rw (c .before .match .keys1) (gone (c .before .before .before .before .before .before .args .t) _ _ (c .go-up .ensures)))
+    (λ c. rw (c .before .match .keys2) (gone (c .before .before .before .before .before .before .args .t) _ _ (c .go-down .ensures)))
+    (λ c. rw (c .before .match .keys3) (gone (c .before .before .before .before .before .before .args .t) _ _ (c .go-right .ensures)))
+    (λ c. rw (c .before .match .keys4) (gone (c .before .before .before .before .before .before .args .t) _ _ (c .go-left .ensures)))
     (λ c. search needs)
-    (λ c. rw (c .before .before .before .match .keys5) (moved (c .before .before .before .before .before .before .before .before .args .t) _ _ (c .before .move-home .ensures)))
+    (λ c. rw (c .before .before .match .keys5) (gone (c .before .before .before .before .before .before .before .args .t) _ _ (c .go-home .ensures)))
     (λ c. search needs)
-    (λ c. rw (c .before .before .before .match .keys6) (moved (c .before .before .before .before .before .before .before .before .args .t) _ _ (c .before .move-home-down .ensures)))
+    (λ c. rw (c .before .before .match .keys6) (gone (c .before .before .before .before .before .before .before .args .t) _ _ (c .go-home-down .ensures)))
     (λ c. search needs)
     (λ c. rw (c .before .before .match .keys7) (gone (c .before .before .before .before .before .before .before .args .t) _ _ (c .tab .ensures)))
     (λ c. search needs)
@@ -96,10 +97,10 @@ strike-spec =
     (λ c. search needs)
     (λ c. search needs)
     (λ c. rw (c .before .before .before .before .before .before .match .keys12) (edited (c .before .before .before .before .before .before .before .before .before .before .before .args .t) (c .before .before .before .delete-char .ensures)))
-    (λ c. rw (c .before .before .match .keys13) (moved (c .before .before .before .before .before .before .before .args .t) _ _ (c .before .move-column0 .ensures)))
-    (λ c. rw (c .before .before .match .keys14) (moved (c .before .before .before .before .before .before .before .args .t) _ _ (c .before .roll-up .ensures)))
-    (λ c. rw (c .before .before .match .keys15) (moved (c .before .before .before .before .before .before .before .args .t) _ _ (c .before .roll-down .ensures)))
-    (λ c. rw (c .before .before .match .keys16) (moved (c .before .before .before .before .before .before .before .args .t) _ _ (c .before .roll-up2 .ensures)))
-    (λ c. rw (c .before .before .match .keys17) (moved (c .before .before .before .before .before .before .before .args .t) _ _ (c .before .roll-down2 .ensures)))
+    (λ c. rw (c .before .match .keys13) (gone (c .before .before .before .before .before .before .args .t) _ _ (c .go-in .ensures)))
+    (λ c. rw (c .before .match .keys14) (gone (c .before .before .before .before .before .before .args .t) _ _ (c .rise .ensures)))
+    (λ c. rw (c .before .match .keys15) (gone (c .before .before .before .before .before .before .args .t) _ _ (c .fall .ensures)))
+    (λ c. rw (c .before .match .keys16) (gone (c .before .before .before .before .before .before .args .t) _ _ (c .rise2 .ensures)))
+    (λ c. rw (c .before .match .keys17) (gone (c .before .before .before .before .before .before .args .t) _ _ (c .fall2 .ensures)))
     (λ c. rw (c .before .match .keys18))
     rest)
