@@ -1,41 +1,55 @@
 // What the benchmark times, in straightforward C: a switch on the reading state, memmove to scroll, and plain scans of the attributes.
 #include "plain.h"
-#include <stdbool.h>
 #include <string.h>
 
-struct plain {
-    uint8_t *chars, *attrs;
-    int row, col, top;
-    int state; // 0 plain, 1 after ESC, 2 after ESC &, 3 in ESC & a
-    int sign;  // 0 none, 1 plus, 2 minus
-    bool digit;
-    int value;
-};
+static bool is_sized(const struct lent *m) { return m->chars_size == CELLS && m->attrs_size == CELLS; }
 
-static void go(struct plain *t, int row, int col) {
+static bool is_good(const struct plain *t) {
+    if (t->col >= COLUMNS || t->top > ROWS - 24 || t->row < t->top || t->row > t->top + 23) return false;
+    if (t->pending > 4 || t->reading > 6 || t->sign > 2 || t->value < 0 || t->value > 999) return false;
+    if (t->digit) return t->reading == 3;
+    return t->value == 0 && (t->reading == 3 || t->sign == 0);
+}
+
+static bool is_barred(const struct plain *t) { return t->lock || t->pending != 0; }
+
+static void go(struct plain *t, size_t row, size_t col) {
     t->row = row;
     t->col = col;
     if (row < t->top) t->top = row;
     if (row > t->top + 23) t->top = row - 23;
 }
 
-static void feed_line(struct plain *t) {
+static bool starts(uint8_t attr, int last) {
+    int mark = attr % 16;
+    return mark >= 1 && mark <= last;
+}
+
+static size_t field_end(const uint8_t *attrs, size_t cell) {
+    size_t end = cell / COLUMNS * COLUMNS + COLUMNS;
+    for (size_t i = cell + 1; i < end; i++)
+        if (starts(attrs[i], 5)) return i;
+    return end;
+}
+
+// ---- host bytes
+static void feed_line(struct plain *t, const struct lent *m) {
     if (t->row < ROWS - 1) {
         go(t, t->row + 1, t->col);
         return;
     }
-    memmove(t->chars, t->chars + COLUMNS, CELLS - COLUMNS);
-    memset(t->chars + CELLS - COLUMNS, 32, COLUMNS);
-    memmove(t->attrs, t->attrs + COLUMNS, CELLS - COLUMNS);
-    memset(t->attrs + CELLS - COLUMNS, 0, COLUMNS);
+    memmove(m->chars, m->chars + COLUMNS, CELLS - COLUMNS);
+    memset(m->chars + CELLS - COLUMNS, 32, COLUMNS);
+    memmove(m->attrs, m->attrs + COLUMNS, CELLS - COLUMNS);
+    memset(m->attrs + CELLS - COLUMNS, 0, COLUMNS);
 }
 
-static void type(struct plain *t, uint8_t b) {
-    t->chars[t->row * COLUMNS + t->col] = b;
+static void type(struct plain *t, const struct lent *m, uint8_t b) {
+    m->chars[t->row * COLUMNS + t->col] = b;
     if (t->col < COLUMNS - 1) {
         t->col++;
     } else {
-        feed_line(t);
+        feed_line(t, m);
         t->col = 0;
     }
 }
@@ -46,8 +60,8 @@ static void clear_number(struct plain *t) {
     t->value = 0;
 }
 
-static int aim(const struct plain *t, int from, int last) {
-    int to = t->sign == 0 ? t->value : t->sign == 1 ? from + t->value : from - t->value;
+static size_t aim(const struct plain *t, size_t from, int last) {
+    int to = t->sign == 0 ? t->value : t->sign == 1 ? (int)from + t->value : (int)from - t->value;
     return to < 0 ? 0 : to > last ? last : to;
 }
 
@@ -73,53 +87,88 @@ static void address(struct plain *t, uint8_t b) {
         break;
     }
     clear_number(t);
-    t->state = b == 'c' || b == 'r' ? 3 : 0;
+    t->reading = b == 'c' || b == 'r' ? 3 : 0;
 }
 
-static void take(struct plain *t, uint8_t b) {
+static size_t measure_block(const struct lent *m) {
+    size_t sent = 1;
+    for (size_t i = 0; i < CELLS; i++)
+        if (starts(m->attrs[i], 4)) sent += field_end(m->attrs, i) - i + (sent != 1);
+    return sent;
+}
+
+static size_t send_block(const struct lent *m, uint8_t *reply) {
+    size_t sent = 0;
+    for (size_t i = 0; i < CELLS; i++) {
+        if (!starts(m->attrs[i], 4)) continue;
+        size_t length = field_end(m->attrs, i) - i;
+        if (sent != 0) reply[sent++] = 31;
+        memcpy(reply + sent, m->chars + i, length);
+        sent += length;
+    }
+    reply[sent++] = 30;
+    return sent;
+}
+
+// DC1: the pending block; false where it does not fit. A reply is at most two bytes a cell, so with that room it is not measured.
+static bool trigger(struct plain *t, const struct lent *m, size_t *written) {
+    size_t room = m->reply_size - *written;
+    if (t->pending != 4) return true;
+    if (room < 2 * CELLS && room < measure_block(m)) return false;
+    *written += send_block(m, m->reply + *written);
+    t->pending = 0;
+    return true;
+}
+
+static bool take(struct plain *t, const struct lent *m, uint8_t b, size_t *written) {
     if (b == 27) {
         clear_number(t);
-        t->state = 1;
-        return;
+        t->reading = 1;
+        return true;
     }
-    switch (t->state) {
+    switch (t->reading) {
     case 0:
-        if (b >= 32 && b <= 126) type(t, b);
-        else if (b == 10) feed_line(t);
+        if (b >= 32 && b <= 126) type(t, m, b);
+        else if (b == 10) feed_line(t, m);
         else if (b == 13) t->col = 0;
-        return;
+        else if (b == 17) return trigger(t, m, written);
+        break;
     case 1:
-        t->state = b == '&' ? 2 : 0;
-        return;
+        if (b == 'd') t->pending = 4;
+        t->reading = b == '&' ? 2 : 0;
+        break;
     case 2:
-        t->state = b == 'a' ? 3 : 0;
-        return;
+        t->reading = b == 'a' ? 3 : 0;
+        break;
     case 3:
         address(t, b);
-        return;
+        break;
     }
+    return true;
 }
 
-size_t plain_host(uint8_t *chars, uint8_t *attrs, const uint8_t *bytes, size_t count) {
-    struct plain t = {.chars = chars, .attrs = attrs};
-    memset(chars, 32, CELLS);
-    memset(attrs, 0, CELLS);
-    for (size_t i = 0; i < count; i++) take(&t, bytes[i] % 128);
-    return count;
+static int host(struct plain *t, const struct lent *m, const uint8_t *bytes, size_t count, size_t *written) {
+    *written = 0;
+    if (!is_sized(m)) return 1;
+    if (!is_good(t)) return 2;
+    for (size_t i = 0; i < count; i++)
+        if (!take(t, m, bytes[i] % 128, written)) return 7;
+    return 0;
 }
 
-static bool starts(uint8_t attr, int last) {
-    int mark = attr % 16;
-    return mark >= 1 && mark <= last;
+void plain_fresh(struct plain *t, const struct lent *m) {
+    *t = (struct plain){0};
+    memset(m->chars, 32, CELLS);
+    memset(m->attrs, 0, CELLS);
 }
 
-static size_t field_end(const uint8_t *attrs, size_t cell) {
-    size_t end = cell / COLUMNS * COLUMNS + COLUMNS;
-    for (size_t i = cell + 1; i < end; i++)
-        if (starts(attrs[i], 5)) return i;
-    return end;
+int plain_host(struct plain *t, const struct lent *m, const uint8_t *bytes, size_t count, size_t *written, size_t times) {
+    int number = 0;
+    for (size_t n = 0; n < times; n++) number = host(t, m, bytes, count, written);
+    return number;
 }
 
+// ---- posts
 static bool allows(int mark, uint8_t b) {
     bool letter = (b >= 'A' && b <= 'Z') || (b >= 'a' && b <= 'z');
     bool digit = (b >= '0' && b <= '9') || b == '+' || b == '-' || b == '.' || b == ',';
@@ -127,21 +176,32 @@ static bool allows(int mark, uint8_t b) {
     return mark == 1 || b == 32 || (mark == 2 ? letter : digit);
 }
 
-int plain_post(uint8_t *chars, const uint8_t *attrs, size_t field, const uint8_t *text, size_t count) {
+static int post(struct plain *t, const struct lent *m, size_t field, const uint8_t *text, size_t count) {
+    if (!is_sized(m)) return 1;
+    if (!is_good(t)) return 2;
+    if (is_barred(t)) return 4;
+    if (!t->format) return 8;
     for (size_t i = 0; i < CELLS; i++) {
-        if (!starts(attrs[i], 3) || field-- != 0) continue;
-        size_t room = field_end(attrs, i) - i;
+        if (!starts(m->attrs[i], 3) || field-- != 0) continue;
+        size_t room = field_end(m->attrs, i) - i;
         if (count > room) return 10;
         for (size_t n = 0; n < count; n++)
-            if (!allows(attrs[i] % 16, text[n])) return 6;
-        memcpy(chars + i, text, count);
-        memset(chars + i + count, 32, room - count);
+            if (!allows(m->attrs[i] % 16, text[n])) return 6;
+        memcpy(m->chars + i, text, count);
+        memset(m->chars + i + count, 32, room - count);
         return 0;
     }
     return 9;
 }
 
-size_t plain_tab(const uint8_t *attrs, size_t cell) {
+int plain_posts(struct plain *t, const struct lent *m, size_t field, const uint8_t *text, size_t count, size_t times) {
+    int number = 0;
+    for (size_t n = 0; n < times; n++) number = post(t, m, field, text, count);
+    return number;
+}
+
+// ---- keys
+static size_t next_start(const uint8_t *attrs, size_t cell) {
     for (size_t i = cell + 1; i < CELLS; i++)
         if (starts(attrs[i], 3)) return i;
     for (size_t i = 0; i <= cell; i++)
@@ -149,7 +209,7 @@ size_t plain_tab(const uint8_t *attrs, size_t cell) {
     return cell;
 }
 
-size_t plain_back_tab(const uint8_t *attrs, size_t cell) {
+static size_t prev_start(const uint8_t *attrs, size_t cell) {
     for (size_t i = cell; i > 0; i--)
         if (starts(attrs[i - 1], 3)) return i - 1;
     for (size_t i = CELLS; i > cell; i--)
@@ -157,15 +217,19 @@ size_t plain_back_tab(const uint8_t *attrs, size_t cell) {
     return cell;
 }
 
-size_t plain_block(const uint8_t *chars, const uint8_t *attrs, uint8_t *reply) {
-    size_t sent = 0;
-    for (size_t i = 0; i < CELLS; i++) {
-        if (!starts(attrs[i], 4)) continue;
-        size_t length = field_end(attrs, i) - i;
-        if (sent != 0) reply[sent++] = 31;
-        memcpy(reply + sent, chars + i, length);
-        sent += length;
-    }
-    reply[sent++] = 30;
-    return sent;
+static int key(struct plain *t, const struct lent *m, int code) {
+    if (!is_sized(m)) return 1;
+    if (!is_good(t)) return 2;
+    if (code != TAB && code != BACK_TAB) return 3;
+    if (is_barred(t)) return 4;
+    size_t cell = t->row * COLUMNS + t->col;
+    cell = code == TAB ? next_start(m->attrs, cell) : prev_start(m->attrs, cell);
+    go(t, cell / COLUMNS, cell % COLUMNS);
+    return 0;
+}
+
+int plain_keys(struct plain *t, const struct lent *m, int code, int other, size_t times) {
+    int number = 0;
+    for (size_t n = 0; n < times; n++) number = key(t, m, n % 2 == 0 ? code : other);
+    return number;
 }

@@ -1,14 +1,39 @@
-// What the benchmark times, in straightforward C: text with CR and LF that scrolls, `ESC & a` with `c` and `r`, and the calls on a form.
+// What the benchmark times, in straightforward C: text with CR and LF that scrolls, `ESC & a` with `c` and `r`, `ESC d` with DC1, and posts, tab and back tab
+// on a form. The state stands behind a pointer. Each call makes the tests that the rules ask for, in their order, and answers their numbers.
+#include <stdbool.h>
 #include <stddef.h>
 #include <stdint.h>
 
-enum { ROWS = 48, COLUMNS = 80, CELLS = ROWS * COLUMNS };
+enum { ROWS = 48, COLUMNS = 80, CELLS = ROWS * COLUMNS, TAB = 262, BACK_TAB = 263 };
 
-// A fresh terminal in the lent memories, then the bytes of a host stream; how many are taken: all.
-size_t plain_host(uint8_t *chars, uint8_t *attrs, const uint8_t *bytes, size_t count);
+struct plain {
+    size_t row, col, top;
+    bool format, insert, lock;
+    uint8_t pending; // 0 none, 4 block
+    uint8_t reading; // 0 plain, 1 after ESC, 2 after ESC &, 3 in ESC & a
+    uint8_t sign;    // 0 none, 1 plus, 2 minus
+    bool digit;
+    int value;
+};
 
-// The calls on a form in lent memories, format on. A post answers its number, a tab the next cell, a block how many bytes it sends.
-int plain_post(uint8_t *chars, const uint8_t *attrs, size_t field, const uint8_t *text, size_t count);
-size_t plain_tab(const uint8_t *attrs, size_t cell);
-size_t plain_back_tab(const uint8_t *attrs, size_t cell);
-size_t plain_block(const uint8_t *chars, const uint8_t *attrs, uint8_t *reply);
+// The lent buffers.
+struct lent {
+    uint8_t *chars;
+    size_t chars_size;
+    uint8_t *attrs;
+    size_t attrs_size;
+    uint8_t *reply;
+    size_t reply_size;
+};
+
+// A fresh terminal.
+void plain_fresh(struct plain *t, const struct lent *m);
+
+// A host stream, `times` times; the number of the last, and in `written` how many bytes it sent.
+int plain_host(struct plain *t, const struct lent *m, const uint8_t *bytes, size_t count, size_t *written, size_t times);
+
+// A post, `times` times; the number of the last.
+int plain_posts(struct plain *t, const struct lent *m, size_t field, const uint8_t *text, size_t count, size_t times);
+
+// Two keys in turn, `times` keys in all; the number of the last. Of the keys it knows tab and back tab with format on.
+int plain_keys(struct plain *t, const struct lent *m, int code, int other, size_t times);
