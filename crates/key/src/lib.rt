@@ -1,12 +1,13 @@
 // The call for a key.
 ghost use mathlib.Core.Path.{_≡_};
-ghost use mathlib.Core.Bool.{cond, not};
+ghost use mathlib.Core.Bool.{Bool, cond, not};
 ghost use Prim.Native.Nat.{_*_, _%_, _≤_, _<_};
 ghost use lib.Dec.{eqb};
 ghost use lib.ListN.{length, set};
 ghost use Rattle.cells.specs.Range.{within};
 ghost use Rattle.cursor.specs.Cursor.{InPlace};
 ghost use Rattle.fields.specs.Fields.{marks, target};
+ghost use Rattle.reading.specs.Action.{rest};
 ghost use Rattle.terminal.specs.State.{world, Sound};
 ghost use Rattle.terminal.specs.Acts.{tabbedBy, backTabbedBy, acted};
 ghost use Rattle.key.specs.Keys.{keyAction, enter, keyRefusal, keyLeft, keyed};
@@ -30,38 +31,14 @@ fn is_text(code: u16) -> bool
     32 <= code && code <= 126
 }
 
-// The action of a key's host byte, or `REST` for a code that is not listed.
-fn action_of(code: u16, insert: bool) -> u8
-    ensures { λ r. ⌜ r ≡ keyAction code insert ⌝ }
+// Whether a code is listed: a text key's, or 256 to 273.
+fn is_listed(code: u16) -> bool
+    ensures { λ r. ⌜ ((insert : Bool) → eqb (keyAction code insert) rest ≡ not r) ⌝ }
 {
     if is_text(code) {
-        return reading::TEXT;
+        return true;
     }
-    match code {
-        256 => reading::UP,
-        257 => reading::DOWN,
-        258 => reading::RIGHT,
-        259 => reading::LEFT,
-        260 => reading::HOME,
-        261 => reading::HOME_DOWN,
-        262 => reading::TAB,
-        263 => reading::BACK_TAB,
-        264 => reading::CLEAR_DISPLAY,
-        265 => reading::CLEAR_LINE,
-        266 => if insert {
-            reading::INSERT_OFF
-        } else {
-            reading::INSERT_ON
-        },
-        267 => reading::DELETE_CHAR,
-        268 => reading::COLUMN_0,
-        269 => reading::ROLL_UP,
-        270 => reading::ROLL_DOWN,
-        271 => reading::NEXT_PAGE,
-        272 => reading::PREV_PAGE,
-        273 => reading::ASK_BLOCK,
-        _ => reading::REST,
-    }
+    256 <= code && code <= 273
 }
 
 // The number of a text key with format on.
@@ -90,7 +67,7 @@ fn refuse(t: Terminal, rows: usize, chars: &[u8], attrs: &[u8], code: u16, room:
     if !t.is_good(rows) {
         return 2;
     }
-    let unlisted = action_of(code, t.insert) == reading::REST;
+    let unlisted = !is_listed(code);
     let barred = t.is_barred();
     if unlisted {
         return 3;
