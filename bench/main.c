@@ -1,4 +1,4 @@
-// Times the terminal beside a small C implementation and libvterm. Prints ratios, over 1 where the terminal is the faster, and its nanoseconds.
+// Times the terminal beside a small C implementation and libvterm, with memories of 48 and of 96 rows. Prints ratios, over 1 where the terminal is the faster, and its nanoseconds.
 #include "plain.h"
 #include <stdarg.h>
 #include <stdio.h>
@@ -7,28 +7,44 @@
 #include <time.h>
 #include <vterm.h>
 
-// The static library's calls. A slice is a pointer, then a length.
-size_t bench_host(uint8_t *chars, size_t nc, uint8_t *attrs, size_t na, const uint8_t *bytes, size_t nb, uint8_t *reply, size_t nr);
-uint8_t bench_posts(uint8_t *chars, size_t nc, uint8_t *attrs, size_t na, const uint8_t *form, size_t nf, uint8_t *reply, size_t nr,
-                    size_t field, const uint8_t *text, size_t nt, size_t times);
-uint8_t bench_keys(uint8_t *chars, size_t nc, uint8_t *attrs, size_t na, const uint8_t *form, size_t nf, uint8_t *reply, size_t nr,
-                   uint16_t code, uint16_t other, size_t times);
-size_t bench_blocks(uint8_t *chars, size_t nc, uint8_t *attrs, size_t na, const uint8_t *form, size_t nf, uint8_t *reply, size_t nr,
-                    size_t times);
+// The calls of the two static libraries, for memories of 48 and of 96 rows. A slice is a pointer, then a length.
+#define CALLS(rows)                                                                                                                      \
+    size_t bench_host_##rows(uint8_t *chars, size_t nc, uint8_t *attrs, size_t na, const uint8_t *bytes, size_t nb, uint8_t *reply,      \
+                             size_t nr);                                                                                                 \
+    uint8_t bench_posts_##rows(uint8_t *chars, size_t nc, uint8_t *attrs, size_t na, const uint8_t *form, size_t nf, uint8_t *reply,     \
+                               size_t nr, size_t field, const uint8_t *text, size_t nt, size_t times);                                   \
+    uint8_t bench_keys_##rows(uint8_t *chars, size_t nc, uint8_t *attrs, size_t na, const uint8_t *form, size_t nf, uint8_t *reply,      \
+                              size_t nr, uint16_t code, uint16_t other, size_t times);                                                   \
+    size_t bench_blocks_##rows(uint8_t *chars, size_t nc, uint8_t *attrs, size_t na, const uint8_t *form, size_t nf, uint8_t *reply,     \
+                               size_t nr, size_t times);
+CALLS(48)
+CALLS(96)
 
-enum { RUNS = 9, LINES = 50000, PLACES = 250000, REPLY = 2 * CELLS, FORMS = 3 };
-#define LENT(m) (m)->chars, CELLS, (m)->attrs, CELLS
+enum { RUNS = 9, LINES = 50000, PLACES = 250000, POSTS = 60000, KEYS = 60000, ROUND = 120007, BLOCKS = 3000 };
+enum { MOST_CELLS = 96 * COLUMNS, FORMS = 3, SIZES = 2 };
 
-struct memory { uint8_t chars[CELLS], attrs[CELLS]; };
+struct memory { uint8_t chars[MOST_CELLS], attrs[MOST_CELLS]; };
 struct stream { uint8_t *bytes; size_t count; };
 
 static const size_t FIELDS[FORMS] = {6, 60, 600}, APART[FORMS] = {3, 60, 600};
 
 static struct memory ours, theirs;
-static uint8_t reply[REPLY], their_reply[REPLY];
-static const struct lent lent = {theirs.chars, CELLS, theirs.attrs, CELLS, their_reply, REPLY};
-static VTerm *vterm;
-static VTermScreen *vscreen;
+static uint8_t reply[2 * MOST_CELLS], their_reply[2 * MOST_CELLS];
+
+// The number of rows in use, and what goes with it.
+static struct {
+    size_t rows, cells, room;
+    __typeof__(bench_host_48) *host;
+    __typeof__(bench_posts_48) *posts;
+    __typeof__(bench_keys_48) *keys;
+    __typeof__(bench_blocks_48) *blocks;
+    const struct plain_calls *plain;
+    struct lent lent;
+    VTerm *vterm;
+    VTermScreen *vscreen;
+} sizes[SIZES], *at;
+#define OURS ours.chars, at->cells, ours.attrs, at->cells
+#define REPLY reply, at->room
 
 // The processor time of this process, so that other processes count little.
 static double now(void) {
@@ -85,7 +101,7 @@ static struct stream text_stream(void) {
 static struct stream place_stream(int own) {
     struct stream s = begin(PLACES * 20 + 16);
     for (size_t n = 0; n < PLACES; n++) {
-        int row = n * 31 % ROWS, col = n * 17 % 72;
+        int row = n * 31 % at->rows, col = n * 17 % 72;
         if (own) add(&s, "\033[%d;%dH", row + 1, col + 1);
         else add(&s, "\033&a%dc%dR", col, row);
         for (size_t i = 0; i < 8; i++) s.bytes[s.count++] = letter(n + i);
@@ -108,19 +124,49 @@ static struct stream form_stream(size_t fields, size_t apart) {
 }
 
 // ---- the lines
-static void print_head(void) { printf("%-34s %8s %9s   %s\n", "their time / ours", "plain C", "libvterm", "ours"); }
+// The seconds of one round, of all three; libvterm's are 0 where it takes no part.
+struct round { double ours, plain, vterm; };
 
-static void print_line(const char *name, double plain, double vterm_ratio, double ns, const char *unit) {
-    printf("%-34s %8.2f ", name, plain);
-    if (vterm_ratio > 0) printf("%9.2f", vterm_ratio);
-    else printf("%9s", "");
-    printf("   %8.1f ns %s\n", ns, unit);
+static void print_head(void) {
+    printf("%-34s", "their time / ours");
+    for (int k = 0; k < SIZES; k++) printf("  %2zu rows: plain C libvterm       ours", sizes[k].rows);
+    printf("   96 / 48\n");
 }
+
+// Medians of the ratios of each round, and of our time; `parts` is how many units a round has.
+static void print_line(const char *name, struct round r[RUNS][SIZES], size_t parts, const char *unit) {
+    double xs[RUNS];
+    printf("%-34s", name);
+    for (int k = 0; k < SIZES; k++) {
+        for (int i = 0; i < RUNS; i++) xs[i] = r[i][k].plain / r[i][k].ours;
+        printf("  %17.2f", median(xs));
+        for (int i = 0; i < RUNS; i++) xs[i] = r[i][k].vterm / r[i][k].ours;
+        double vterm = median(xs);
+        if (vterm > 0) printf("%9.2f", vterm);
+        else printf("%9s", "");
+        for (int i = 0; i < RUNS; i++) xs[i] = r[i][k].ours;
+        printf("%8.1f ns", median(xs) / parts * 1e9);
+    }
+    for (int i = 0; i < RUNS; i++) xs[i] = r[i][1].ours / r[i][0].ours;
+    printf("   %7.2f  %s\n", median(xs), unit);
+}
+
+// A line of the first table: rounds in which both numbers of rows take turns.
+#define LINE(name, parts, unit, once)                         \
+    do {                                                      \
+        struct round r[RUNS][SIZES];                          \
+        for (int i = 0; i < RUNS; i++)                        \
+            for (int k = 0; k < SIZES; k++) {                 \
+                at = &sizes[k];                               \
+                r[i][k] = once;                               \
+            }                                                 \
+        print_line(name, r, parts, unit);                     \
+    } while (0)
 
 // The seconds of one run of each stream, from a fresh terminal.
 static double run_ours(struct stream s) {
     double start = now();
-    size_t taken = bench_host(LENT(&ours), s.bytes, s.count, reply, REPLY);
+    size_t taken = at->host(OURS, s.bytes, s.count, REPLY);
     double end = now();
     expect(taken == s.count, "the whole stream is taken");
     return end - start;
@@ -130,8 +176,8 @@ static double run_plain(struct stream s) {
     struct plain t;
     size_t written;
     double start = now();
-    plain_fresh(&t, &lent);
-    int number = plain_host(&t, &lent, s.bytes, s.count, &written, 1);
+    at->plain->fresh(&t, &at->lent);
+    int number = at->plain->host(&t, &at->lent, s.bytes, s.count, &written, 1);
     double end = now();
     expect(number == 0, "the plain C takes the whole stream");
     return end - start;
@@ -141,146 +187,158 @@ static double run_plain(struct stream s) {
 static double run_vterm(struct stream s) {
     enum { PART = 4096 };
     double start = now();
-    vterm_screen_reset(vscreen, 1);
-    for (size_t at = 0; at < s.count; at += PART) {
-        size_t part = s.count - at < PART ? s.count - at : PART;
-        expect(vterm_input_write(vterm, (const char *)s.bytes + at, part) == part, "libvterm takes the whole stream");
+    vterm_screen_reset(at->vscreen, 1);
+    for (size_t from = 0; from < s.count; from += PART) {
+        size_t part = s.count - from < PART ? s.count - from : PART;
+        expect(vterm_input_write(at->vterm, (const char *)s.bytes + from, part) == part, "libvterm takes the whole stream");
     }
     return now() - start;
 }
 
 static int vterm_agrees(void) {
-    for (int row = 0; row < ROWS; row++)
+    for (int row = 0; row < (int)at->rows; row++)
         for (int col = 0; col < COLUMNS; col++) {
             VTermScreenCell cell;
-            vterm_screen_get_cell(vscreen, (VTermPos){.row = row, .col = col}, &cell);
+            vterm_screen_get_cell(at->vscreen, (VTermPos){.row = row, .col = col}, &cell);
             uint32_t c = cell.chars[0] == 0 ? 32 : cell.chars[0];
             if (c != ours.chars[row * COLUMNS + col]) return 0;
         }
     return 1;
 }
 
-static void expect_same(void) { expect(memcmp(&ours, &theirs, sizeof ours) == 0, "both memories are the same as the plain C's"); }
+static void expect_same(void) {
+    int same = memcmp(ours.chars, theirs.chars, at->cells) == 0 && memcmp(ours.attrs, theirs.attrs, at->cells) == 0;
+    expect(same, "both memories are the same as the plain C's");
+}
 
-// One stream through all three, in turn; `own` is the same in libvterm's addressing, `parts` how many of `unit` it has.
-static void compare(const char *name, struct stream s, struct stream own, size_t parts, const char *unit) {
-    double us[RUNS], c[RUNS], v[RUNS];
-    for (int i = 0; i < RUNS; i++) {
-        us[i] = run_ours(s);
-        c[i] = run_plain(s) / us[i];
-        v[i] = run_vterm(own) / us[i];
-    }
+// One stream through all three; `own` is the same in libvterm's addressing.
+static struct round stream_round(struct stream s, struct stream own) {
+    struct round r = {run_ours(s), run_plain(s), run_vterm(own)};
     expect_same();
     expect(vterm_agrees(), "the characters are the same as libvterm's");
-    print_line(name, median(c), median(v), median(us) / parts * 1e9, unit);
+    return r;
 }
 
 // The seconds of painting the form, which each of our calls on it does first; the plain C then has the same form, and the cursor at its first field.
 static double paint(struct stream form, struct plain *t) {
     double start = now();
-    bench_blocks(LENT(&ours), form.bytes, form.count, reply, REPLY, 0);
+    at->blocks(OURS, form.bytes, form.count, REPLY, 0);
     double end = now();
     theirs = ours;
     *t = (struct plain){.format = true};
     return end - start;
 }
 
-static void compare_posts(const char *name, struct stream form, size_t field) {
-    enum { TIMES = 60000 };
+static struct round post_round(struct stream form, size_t field) {
     const uint8_t text[] = {'T', '1'};
-    double us[RUNS], c[RUNS];
-    for (int i = 0; i < RUNS; i++) {
-        struct plain t;
-        double painting = paint(form, &t), start = now();
-        int number = bench_posts(LENT(&ours), form.bytes, form.count, reply, REPLY, field, text, sizeof text, TIMES);
-        us[i] = now() - start - painting;
-        expect(number == 0, "the post is done");
-        start = now();
-        number = plain_posts(&t, &lent, field, text, sizeof text, TIMES);
-        c[i] = (now() - start) / us[i];
-        expect(number == 0, "the plain C's post is done");
-        expect_same();
-    }
-    print_line(name, median(c), 0, median(us) / TIMES * 1e9, "a post");
+    struct plain t;
+    struct round r = {0};
+    double painting = paint(form, &t), start = now();
+    int number = at->posts(OURS, form.bytes, form.count, REPLY, field, text, sizeof text, POSTS);
+    r.ours = now() - start - painting;
+    expect(number == 0, "the post is done");
+    start = now();
+    number = at->plain->posts(&t, &at->lent, field, text, sizeof text, POSTS);
+    r.plain = now() - start;
+    expect(number == 0, "the plain C's post is done");
+    expect_same();
+    return r;
 }
 
-// Two keys in turn, `times` in all; then a character shows where the cursor is. The ratio, and in `ns` the nanoseconds of one of our keys.
-static double time_keys(struct stream form, uint16_t code, uint16_t other, size_t times, double *ns) {
+// Two keys in turn, `times` in all; then a character shows where the cursor is.
+static struct round key_round(struct stream form, uint16_t code, uint16_t other, size_t times) {
     const uint8_t shown[] = {'X'};
-    double us[RUNS], c[RUNS];
-    for (int i = 0; i < RUNS; i++) {
-        struct plain t;
-        size_t written;
-        double painting = paint(form, &t), start = now();
-        int number = bench_keys(LENT(&ours), form.bytes, form.count, reply, REPLY, code, other, times);
-        us[i] = now() - start - painting;
-        expect(number == 0, "the key is done");
-        start = now();
-        number = plain_keys(&t, &lent, code, other, times);
-        c[i] = (now() - start) / us[i];
-        expect(number == 0, "the plain C's key is done");
-        plain_host(&t, &lent, shown, sizeof shown, &written, 1);
-        expect_same();
-    }
-    *ns = median(us) / times * 1e9;
-    return median(c);
+    struct plain t;
+    struct round r = {0};
+    size_t written;
+    double painting = paint(form, &t), start = now();
+    int number = at->keys(OURS, form.bytes, form.count, REPLY, code, other, times);
+    r.ours = now() - start - painting;
+    expect(number == 0, "the key is done");
+    start = now();
+    number = at->plain->keys(&t, &at->lent, code, other, times);
+    r.plain = now() - start;
+    expect(number == 0, "the plain C's key is done");
+    at->plain->host(&t, &at->lent, shown, sizeof shown, &written, 1);
+    expect_same();
+    return r;
 }
 
-// Round and round a form of `fields` fields. A round looks at each cell once, so a key looks at CELLS / fields cells.
-static void compare_keys(const char *key, uint16_t code, size_t fields) {
-    char name[64];
-    double ns, ratio = time_keys(form_stream(fields, 3), code, code, 120000 + 7, &ns);
-    sprintf(name, "%s, %zu fields, %.1f cells", key, fields, (double)CELLS / fields);
-    print_line(name, ratio, 0, ns, "a key");
-}
-
-static void compare_blocks(const char *name, struct stream form) {
-    enum { TIMES = 3000 };
+static struct round block_round(struct stream form) {
     const uint8_t ask[] = {27, 'd', 17};
-    double us[RUNS], c[RUNS];
-    for (int i = 0; i < RUNS; i++) {
-        struct plain t;
-        size_t others;
-        double painting = paint(form, &t), start = now();
-        size_t count = bench_blocks(LENT(&ours), form.bytes, form.count, reply, REPLY, TIMES);
-        us[i] = now() - start - painting;
-        start = now();
-        int number = plain_host(&t, &lent, ask, sizeof ask, &others, TIMES);
-        c[i] = (now() - start) / us[i];
-        expect(number == 0 && count == others && memcmp(reply, their_reply, count) == 0, "both blocks are the same");
-    }
-    print_line(name, median(c), 0, median(us) / TIMES * 1e9, "a block");
+    struct plain t;
+    struct round r = {0};
+    size_t others;
+    double painting = paint(form, &t), start = now();
+    size_t count = at->blocks(OURS, form.bytes, form.count, REPLY, BLOCKS);
+    r.ours = now() - start - painting;
+    start = now();
+    int number = at->plain->host(&t, &at->lent, ask, sizeof ask, &others, BLOCKS);
+    r.plain = now() - start;
+    expect(number == 0 && count == others && memcmp(reply, their_reply, count) == 0, "both blocks are the same");
+    return r;
 }
 
 // Back tab and tab in turn between the first two fields, by how far apart they are and how many more fields there are.
 static void show_distances(void) {
-    printf("\nback tab and tab in turn between two fields, ns a key\n%-14s", "cells apart");
+    printf("\nback tab and tab in turn between two fields, %zu rows, ns a key\n%-14s", at->rows, "cells apart");
     for (int f = 0; f < FORMS; f++) printf(" %6zu fields", FIELDS[f]);
     printf("\n");
     for (int a = 0; a < FORMS; a++) {
         printf("%-14zu", APART[a]);
         for (int f = 0; f < FORMS; f++) {
-            double ns;
-            time_keys(form_stream(FIELDS[f], APART[a]), TAB, BACK_TAB, 60000, &ns);
-            printf(" %13.1f", ns);
+            struct stream form = form_stream(FIELDS[f], APART[a]);
+            double ns[RUNS];
+            for (int i = 0; i < RUNS; i++) ns[i] = key_round(form, TAB, BACK_TAB, KEYS).ours / KEYS * 1e9;
+            printf(" %13.1f", median(ns));
         }
         printf("\n");
     }
 }
 
+static void prepare(size_t rows) {
+    at->rows = rows;
+    at->cells = rows * COLUMNS;
+    at->room = 2 * at->cells;
+    at->lent = (struct lent){theirs.chars, at->cells, theirs.attrs, at->cells, their_reply, at->room};
+    at->vterm = vterm_new(rows, COLUMNS);
+    vterm_set_utf8(at->vterm, 0);
+    at->vscreen = vterm_obtain_screen(at->vterm);
+}
+
+#define PREPARE(i, count)                 \
+    do {                                  \
+        at = &sizes[i];                   \
+        at->host = bench_host_##count;    \
+        at->posts = bench_posts_##count;  \
+        at->keys = bench_keys_##count;    \
+        at->blocks = bench_blocks_##count; \
+        at->plain = &plain_##count;       \
+        prepare(count);                   \
+    } while (0)
+
 int main(void) {
-    vterm = vterm_new(ROWS, COLUMNS);
-    vterm_set_utf8(vterm, 0);
-    vscreen = vterm_obtain_screen(vterm);
-    struct stream text = text_stream(), form = form_stream(600, 3);
+    struct stream text = text_stream(), form[FORMS], places[SIZES], own[SIZES];
+    PREPARE(0, 48);
+    PREPARE(1, 96);
+    for (int k = 0; k < SIZES; k++) {
+        at = &sizes[k];
+        places[k] = place_stream(0);
+        own[k] = place_stream(1);
+    }
+    for (int f = 0; f < FORMS; f++) form[f] = form_stream(FIELDS[f], 3);
     print_head();
-    compare("text that scrolls", text, text, text.count, "a byte");
-    compare("cursor addressing", place_stream(0), place_stream(1), PLACES, "a place with eight characters");
-    compare_posts("post into field 0 of 600", form, 0);
-    compare_posts("post into field 500 of 600", form, 500);
-    compare_keys("tab", TAB, 600);
-    for (int f = FORMS; f-- > 0;) compare_keys("back tab", BACK_TAB, FIELDS[f]);
-    compare_blocks("block transfer of 600 fields", form);
-    show_distances();
+    LINE("text that scrolls", text.count, "a byte", stream_round(text, text));
+    LINE("cursor addressing", PLACES, "a place with eight characters", stream_round(places[k], own[k]));
+    LINE("post into field 0 of 600", POSTS, "a post", post_round(form[2], 0));
+    LINE("post into field 500 of 600", POSTS, "a post", post_round(form[2], 500));
+    LINE("tab, 600 fields", ROUND, "a key", key_round(form[2], TAB, TAB, ROUND));
+    LINE("back tab, 600 fields", ROUND, "a key", key_round(form[2], BACK_TAB, BACK_TAB, ROUND));
+    LINE("back tab, 60 fields", ROUND, "a key", key_round(form[1], BACK_TAB, BACK_TAB, ROUND));
+    LINE("back tab, 6 fields", ROUND, "a key", key_round(form[0], BACK_TAB, BACK_TAB, ROUND));
+    LINE("tab and back tab, 3 cells apart", KEYS, "a key", key_round(form[2], TAB, BACK_TAB, KEYS));
+    LINE("clear display, 600 fields", BLOCKS, "a key", key_round(form[2], CLEAR_DISPLAY, CLEAR_DISPLAY, BLOCKS));
+    LINE("block transfer of 600 fields", BLOCKS, "a block", block_round(form[2]));
+    for (at = sizes; at < sizes + SIZES; at++) show_distances();
     return 0;
 }

@@ -1,6 +1,9 @@
 // What the benchmark times, in straightforward C: a switch on the reading state, memmove to scroll, and plain scans of the attributes.
+// It is compiled once for each number of rows, with ROWS and with PLAIN, the name of its calls.
 #include "plain.h"
 #include <string.h>
+
+enum { CELLS = ROWS * COLUMNS };
 
 static bool is_sized(const struct lent *m) { return m->chars_size == CELLS && m->attrs_size == CELLS; }
 
@@ -156,13 +159,13 @@ static int host(struct plain *t, const struct lent *m, const uint8_t *bytes, siz
     return 0;
 }
 
-void plain_fresh(struct plain *t, const struct lent *m) {
+static void fresh(struct plain *t, const struct lent *m) {
     *t = (struct plain){0};
     memset(m->chars, 32, CELLS);
     memset(m->attrs, 0, CELLS);
 }
 
-int plain_host(struct plain *t, const struct lent *m, const uint8_t *bytes, size_t count, size_t *written, size_t times) {
+static int hosts(struct plain *t, const struct lent *m, const uint8_t *bytes, size_t count, size_t *written, size_t times) {
     int number = 0;
     for (size_t n = 0; n < times; n++) number = host(t, m, bytes, count, written);
     return number;
@@ -194,7 +197,7 @@ static int post(struct plain *t, const struct lent *m, size_t field, const uint8
     return 9;
 }
 
-int plain_posts(struct plain *t, const struct lent *m, size_t field, const uint8_t *text, size_t count, size_t times) {
+static int posts(struct plain *t, const struct lent *m, size_t field, const uint8_t *text, size_t count, size_t times) {
     int number = 0;
     for (size_t n = 0; n < times; n++) number = post(t, m, field, text, count);
     return number;
@@ -217,19 +220,38 @@ static size_t prev_start(const uint8_t *attrs, size_t cell) {
     return cell;
 }
 
+// With format on: what stands in unprotected cells from the cursor on goes, marks stay.
+static void clear_display(const struct plain *t, const struct lent *m) {
+    size_t cell = t->row * COLUMNS + t->col;
+    int kind = 0;
+    for (size_t i = t->row * COLUMNS; i < CELLS; i++) {
+        if (i % COLUMNS == 0) kind = 0;
+        if (starts(m->attrs[i], 5)) kind = m->attrs[i] % 16;
+        if (i < cell || kind < 1 || kind > 3) continue;
+        m->chars[i] = 32;
+        m->attrs[i] %= 16;
+    }
+}
+
 static int key(struct plain *t, const struct lent *m, int code) {
     if (!is_sized(m)) return 1;
     if (!is_good(t)) return 2;
-    if (code != TAB && code != BACK_TAB) return 3;
+    if (code != TAB && code != BACK_TAB && code != CLEAR_DISPLAY) return 3;
     if (is_barred(t)) return 4;
+    if (code == CLEAR_DISPLAY) {
+        clear_display(t, m);
+        return 0;
+    }
     size_t cell = t->row * COLUMNS + t->col;
     cell = code == TAB ? next_start(m->attrs, cell) : prev_start(m->attrs, cell);
     go(t, cell / COLUMNS, cell % COLUMNS);
     return 0;
 }
 
-int plain_keys(struct plain *t, const struct lent *m, int code, int other, size_t times) {
+static int keys(struct plain *t, const struct lent *m, int code, int other, size_t times) {
     int number = 0;
     for (size_t n = 0; n < times; n++) number = key(t, m, n % 2 == 0 ? code : other);
     return number;
 }
+
+const struct plain_calls PLAIN = {fresh, hosts, posts, keys};

@@ -1,10 +1,10 @@
-// What the benchmark times, in straightforward C: text with CR and LF that scrolls, `ESC & a` with `c` and `r`, `ESC d` with DC1, and posts, tab and back tab
-// on a form. The state stands behind a pointer. Each call makes the tests that the rules ask for, in their order, and answers their numbers.
+// What the benchmark times, in straightforward C: text with CR and LF that scrolls, `ESC & a` with `c` and `r`, `ESC d` with DC1, and posts, tab, back tab and
+// clear display on a form. The state stands behind a pointer. Each call makes the tests that the rules ask for, in their order, and answers their numbers.
 #include <stdbool.h>
 #include <stddef.h>
 #include <stdint.h>
 
-enum { ROWS = 48, COLUMNS = 80, CELLS = ROWS * COLUMNS, TAB = 262, BACK_TAB = 263 };
+enum { COLUMNS = 80, TAB = 262, BACK_TAB = 263, CLEAR_DISPLAY = 264 };
 
 struct plain {
     size_t row, col, top;
@@ -26,14 +26,16 @@ struct lent {
     size_t reply_size;
 };
 
-// A fresh terminal.
-void plain_fresh(struct plain *t, const struct lent *m);
+struct plain_calls {
+    // A fresh terminal.
+    void (*fresh)(struct plain *t, const struct lent *m);
+    // A host stream, `times` times; the number of the last, and in `written` how many bytes it sent.
+    int (*host)(struct plain *t, const struct lent *m, const uint8_t *bytes, size_t count, size_t *written, size_t times);
+    // A post, `times` times; the number of the last.
+    int (*posts)(struct plain *t, const struct lent *m, size_t field, const uint8_t *text, size_t count, size_t times);
+    // Two keys in turn, `times` keys in all; the number of the last. Of the keys it knows tab, back tab and clear display, with format on.
+    int (*keys)(struct plain *t, const struct lent *m, int code, int other, size_t times);
+};
 
-// A host stream, `times` times; the number of the last, and in `written` how many bytes it sent.
-int plain_host(struct plain *t, const struct lent *m, const uint8_t *bytes, size_t count, size_t *written, size_t times);
-
-// A post, `times` times; the number of the last.
-int plain_posts(struct plain *t, const struct lent *m, size_t field, const uint8_t *text, size_t count, size_t times);
-
-// Two keys in turn, `times` keys in all; the number of the last. Of the keys it knows tab and back tab with format on.
-int plain_keys(struct plain *t, const struct lent *m, int code, int other, size_t times);
+// plain.c, compiled for memories of 48 and of 96 rows.
+extern const struct plain_calls plain_48, plain_96;

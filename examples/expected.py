@@ -1,17 +1,17 @@
 #!/usr/bin/env python3
 """Prints what the programs `session` and `show` print, computed by the reference model.
 
-    expected.py session           [FILE..]
-    expected.py show [host] [raw] [FILE..]
+    expected.py session [48]           [FILE..]
+    expected.py show [48] [host] [raw] [FILE..]
 
-A FILE holds session records, or with `host` one host stream; without a FILE it is standard input.
+A FILE holds session records, or with `host` one host stream; without a FILE it is standard input. The terminal has 96 rows, or with `48` as many.
 """
 
 import sys
 
 sys.dont_write_bytecode = True
 
-from model import COLUMNS, RECORD, ROWS, SHORT_RECORD, Terminal, run, run_host
+from model import COLUMNS, RECORD, SHORT_RECORD, Terminal, run, run_host
 
 PENDING = ["none", "absolute cursor", "window cursor", "status", "block"]
 MARGIN = " " * 7
@@ -30,7 +30,7 @@ def raw_lines(terminal, replies):
     yield "state row %d col %d top %d format %d insert %d lock %d pending %d reading %d sign %d digit %d value %d tabs %s" % (
         t.row, t.col, t.top, t.format, t.insert, t.lock, t.pending, t.reading, t.sign, t.digit, t.value,
         "".join("1" if tab else "0" for tab in t.tabs))
-    for row in range(ROWS):
+    for row in range(t.rows):
         cells = slice(row * COLUMNS, (row + 1) * COLUMNS)
         yield "chars %d %s" % (row, bytes(t.chars[cells]).hex())
         yield "attrs %d %s" % (row, bytes(t.attrs[cells]).hex())
@@ -76,7 +76,7 @@ def picture_lines(terminal):
     yield (MARGIN + "".join("%d         " % tens for tens in range(COLUMNS // 10))).rstrip()
     yield MARGIN + "0123456789" * (COLUMNS // 10)
     count = 0
-    for row in range(ROWS):
+    for row in range(t.rows):
         if left_out(t, row):
             count += 1
             continue
@@ -103,13 +103,14 @@ def short_part_lines(results, size):
         yield "12: the input ends inside record %d, after %d of %d bytes" % (len(results) - 1, size % RECORD, RECORD)
 
 
-def lines(program, host, raw, data):
+def lines(program, words, data):
     """What one file gives."""
-    if host:
-        terminal = Terminal()
+    rows, raw = 48 if "48" in words else 96, "raw" in words
+    if "host" in words:
+        terminal = Terminal(rows)
         answer, reply = run_host(terminal, data)
         return raw_lines(terminal, [reply]) if raw else picture_lines(terminal)
-    terminal, results = run(data)
+    terminal, results = run(data, rows)
     if program == "session":
         return session_lines(terminal, results)
     if raw:
@@ -117,7 +118,7 @@ def lines(program, host, raw, data):
     return list(short_part_lines(results, len(data))) + list(picture_lines(terminal))
 
 
-def file_lines(program, host, raw, names):
+def file_lines(program, words, names):
     """What the files give, one after the other, each from a fresh terminal; of several each has its name before it."""
     for name in names:
         try:
@@ -128,14 +129,13 @@ def file_lines(program, host, raw, names):
             continue
         if len(names) > 1:
             yield "== " + name
-        yield from lines(program, host, raw, data)
+        yield from lines(program, words, data)
 
 
 def main(program, words):
-    modes = [] if program == "session" else [word for word in words if word in ("host", "raw")]
-    names = words if program == "session" else [word for word in words if word not in ("host", "raw")]
-    host, raw = "host" in modes, "raw" in modes
-    found = file_lines(program, host, raw, names) if names else lines(program, host, raw, sys.stdin.buffer.read())
+    asked = [word for word in words if word in (["48"] if program == "session" else ["48", "host", "raw"])]
+    names = [word for word in words if word not in asked]
+    found = file_lines(program, asked, names) if names else lines(program, asked, sys.stdin.buffer.read())
     for line in found:
         print(line)
 

@@ -1,6 +1,6 @@
 """A second, independent implementation of document 01, with what document 02 changes, from which the tests' expected outputs are computed.
 
-Plain lists and ifs, no sharing with the Rattle code. `Terminal` has the three calls:
+Plain lists and ifs, no sharing with the Rattle code. `Terminal(rows)` has the three calls:
 
     host(data, room)   -> answer, bytes taken, reply bytes
     key(code, room)    -> answer, reply bytes
@@ -9,11 +9,7 @@ Plain lists and ifs, no sharing with the Rattle code. `Terminal` has the three c
 and `run` runs the records of a session from a fresh terminal. `expected.py` prints what the programs print.
 """
 
-ROWS = 48
 COLUMNS = 80
-CELLS = ROWS * COLUMNS
-LAST_TOP = ROWS - 24
-REPLY_ROOM = 2 * CELLS
 RECORD = 84
 
 ESC = 27
@@ -44,12 +40,16 @@ def allowed(kind, character):
 
 
 class Terminal:
-    def __init__(self):
+    def __init__(self, rows):
+        self.rows = rows
+        self.cells = rows * COLUMNS
+        self.last_top = rows - 24
+        self.reply_room = 2 * self.cells
         self.fresh()
 
     def fresh(self):
-        self.chars = [32] * CELLS
-        self.attrs = [0] * CELLS
+        self.chars = [32] * self.cells
+        self.attrs = [0] * self.cells
         self.row = self.col = self.top = 0
         self.format = self.insert = self.lock = False
         self.pending = NONE
@@ -58,7 +58,7 @@ class Terminal:
 
     def good(self):
         """Whether the state is good."""
-        if not (0 <= self.row < ROWS and 0 <= self.col < COLUMNS and 0 <= self.top <= LAST_TOP):
+        if not (0 <= self.row < self.rows and 0 <= self.col < COLUMNS and 0 <= self.top <= self.last_top):
             return False
         if not (self.top <= self.row <= self.top + 23):
             return False
@@ -74,7 +74,7 @@ class Terminal:
 
     def entry(self):
         """Answers 1 and 2, which every call tests first; else 0."""
-        if len(self.chars) != CELLS or len(self.attrs) != CELLS:
+        if len(self.chars) != self.cells or len(self.attrs) != self.cells:
             return BAD_SIZE
         if not self.good():
             return BAD_STATE
@@ -113,7 +113,7 @@ class Terminal:
 
     def fields(self, last_kind):
         """All fields of marks 1 to last_kind in reading order."""
-        return [self.field_at(cell) for cell in range(CELLS) if 1 <= self.mark(cell) <= last_kind]
+        return [self.field_at(cell) for cell in range(self.cells) if 1 <= self.mark(cell) <= last_kind]
 
     def next_start(self, cell):
         """The first unprotected field start after the cell, else the first of all, else None."""
@@ -154,19 +154,19 @@ class Terminal:
         self.move(max(self.row - 1, 0), self.col)
 
     def down(self):
-        self.move(min(self.row + 1, ROWS - 1), self.col)
+        self.move(min(self.row + 1, self.rows - 1), self.col)
 
     def left(self):
         self.move_to_cell(max(self.cursor() - 1, 0))
 
     def right(self):
-        self.move_to_cell(min(self.cursor() + 1, CELLS - 1))
+        self.move_to_cell(min(self.cursor() + 1, self.cells - 1))
 
     def column_0(self):
         self.move(self.row, 0)
 
     def line_feed(self):
-        if self.row < ROWS - 1:
+        if self.row < self.rows - 1:
             self.move(self.row + 1, self.col)
         elif not self.format:
             self.remove_row(0)
@@ -178,13 +178,13 @@ class Terminal:
 
     def home_down(self):
         row = 0
-        for cell in range(CELLS):
+        for cell in range(self.cells):
             if self.chars[cell] != 32:
                 row = cell // COLUMNS + 1
-        self.move(min(row, ROWS - 1), 0)
+        self.move(min(row, self.rows - 1), 0)
 
     def roll(self, rows):
-        if 0 <= self.top + rows <= LAST_TOP:
+        if 0 <= self.top + rows <= self.last_top:
             self.top += rows
             self.row += rows
 
@@ -195,7 +195,7 @@ class Terminal:
         self.roll(-1)
 
     def next_page(self):
-        self.roll(min(24, LAST_TOP - self.top))
+        self.roll(min(24, self.last_top - self.top))
 
     def previous_page(self):
         self.roll(-min(24, self.top))
@@ -210,7 +210,7 @@ class Terminal:
             if self.tabs[col]:
                 self.move(self.row, col)
                 return
-        if self.row < ROWS - 1:
+        if self.row < self.rows - 1:
             self.move(self.row + 1, 0)
 
     def back_tab(self):
@@ -239,7 +239,7 @@ class Terminal:
         cell = row * COLUMNS
         for memory, blank in (self.chars, 32), (self.attrs, 0):
             memory[cell:cell] = [blank] * COLUMNS
-            del memory[CELLS:]
+            del memory[self.cells:]
 
     def write(self, cell, end, character):
         """The character at the cell; insert mode first shifts the characters up to the end."""
@@ -250,7 +250,7 @@ class Terminal:
     def text(self, character):
         if not self.format:
             self.write(self.cursor(), (self.row + 1) * COLUMNS, character)
-            if self.cursor() == CELLS - 1:
+            if self.cursor() == self.cells - 1:
                 self.line_feed()
                 self.column_0()
             else:
@@ -280,7 +280,7 @@ class Terminal:
                 self.attrs[cell] -= self.attrs[cell] // 16 * 16
 
     def clear_display(self):
-        self.clear(CELLS)
+        self.clear(self.cells)
 
     def edit_end(self):
         """Where clear line and delete character stop: the row's end, with format on that of the cursor's
@@ -537,7 +537,7 @@ class Terminal:
         if letter == "c":
             self.move(self.row, held(place, 0, COLUMNS - 1))
         else:
-            self.move(held(place, 0, ROWS - 1), self.col)
+            self.move(held(place, 0, self.rows - 1), self.col)
 
     # Keys and posts
 
@@ -630,7 +630,7 @@ def run_record(terminal, record):
     if kind == "H" and number != 0 or kind == "K" and length != 0:
         return BAD_RECORD, []
     if kind == "K":
-        return terminal.key(number, REPLY_ROOM)
+        return terminal.key(number, terminal.reply_room)
     if kind == "P":
         return terminal.post(number, data[:length]), []
     return run_host(terminal, data[:length])
@@ -640,16 +640,16 @@ def run_host(terminal, data):
     """(answer of the last call, all reply bytes): goes on with an emptied reply buffer until all is taken."""
     replies = []
     while True:
-        answer, taken, sent = terminal.host(data, REPLY_ROOM)
+        answer, taken, sent = terminal.host(data, terminal.reply_room)
         replies += sent
         data = data[taken:]
         if answer != NO_ROOM:
             return answer, replies
 
 
-def run(session):
-    """(terminal, [(answer, reply bytes) of each record]) of a session file's bytes."""
-    terminal = Terminal()
+def run(session, rows):
+    """(terminal, [(answer, reply bytes) of each record]) of a session file's bytes, from a fresh terminal of so many rows."""
+    terminal = Terminal(rows)
     results = []
     for first in range(0, len(session), RECORD):
         results.append(run_record(terminal, session[first:first + RECORD]))

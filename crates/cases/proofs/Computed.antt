@@ -5,7 +5,7 @@ use mathlib.Core.Bool.{Bool, true, false}
 use mathlib.Core.List.{List, [], _∷_, _++_}
 use native.Mathlib.Omega.{arith}
 use Rattle.cases.proofs.Rules.{rules}
-use Rattle.cases.specs.Cases.{same, sameStops, sameState, sameMemory, sameWorld, standsAt, start, room, after, gives, types, takes, refuses, laid, holdsOnly, clears, documentCases, weightCases, clearCases, cases, failing, CasesHold}
+use Rattle.cases.specs.Cases.{same, sameStops, sameState, sameMemory, sameWorld, standsAt, start, room, after, gives, types, takes, refuses, laid, holdsOnly, clears, documentCases, weightCases, clearCases, placeCases, cases, failing, CasesHold}
 
 -- that no case of a list fails does not turn on the number of its first; and where none fails of two lists, none fails of both
 failing-from : (bs : List Bool) (i j : ℕ) → failing i bs ≡ [] → failing j bs ≡ []
@@ -25,19 +25,49 @@ unfoldable comparing : ℕ
 unfolding rules same sameStops sameState sameMemory sameWorld standsAt start room after gives types takes refuses laid holdsOnly clears failing
 comparing = 0
 
--- on 48 rows
-document-hold : failing 0 (documentCases 48) ≡ []
-unfolding comparing documentCases
-document-hold = refl
-
-weights-hold : failing 0 (weightCases 48) ≡ []
-unfolding comparing weightCases
-weights-hold = refl
-
-clears-hold : failing 0 (clearCases 48) ≡ []
-unfolding comparing clearCases
-clears-hold = refl
-
-pub cases-hold : CasesHold 48
+-- all hold where those of each part do
+cases-by : (rows : ℕ) → failing 0 (documentCases rows) ≡ [] → failing 0 (weightCases rows) ≡ [] → failing 0 (clearCases rows) ≡ [] → failing 0 (placeCases rows) ≡ [] → CasesHold rows
 unfolding cases
-cases-hold = failing-both (documentCases 48) (weightCases 48 ++ clearCases 48) 0 document-hold (failing-both (weightCases 48) (clearCases 48) 0 weights-hold clears-hold)
+cases-by rows d w c p =
+    failing-both (documentCases rows) (weightCases rows ++ (clearCases rows ++ placeCases rows)) 0 d
+    (failing-both (weightCases rows) (clearCases rows ++ placeCases rows) 0 w (failing-both (clearCases rows) (placeCases rows) 0 c p))
+
+-- ---- on 96 rows
+document-hold-96 : failing 0 (documentCases 96) ≡ []
+unfolding comparing documentCases
+document-hold-96 = refl
+
+weights-hold-96 : failing 0 (weightCases 96) ≡ []
+unfolding comparing weightCases
+weights-hold-96 = refl
+
+clears-hold-96 : failing 0 (clearCases 96) ≡ []
+unfolding comparing clearCases
+clears-hold-96 = refl
+
+places-hold-96 : failing 0 (placeCases 96) ≡ []
+unfolding comparing placeCases
+places-hold-96 = refl
+
+pub cases-hold-96 : CasesHold 96
+cases-hold-96 = cases-by 96 document-hold-96 weights-hold-96 clears-hold-96 places-hold-96
+
+-- ---- on 48 rows
+document-hold-48 : failing 0 (documentCases 48) ≡ []
+unfolding comparing documentCases
+document-hold-48 = refl
+
+weights-hold-48 : failing 0 (weightCases 48) ≡ []
+unfolding comparing weightCases
+weights-hold-48 = refl
+
+clears-hold-48 : failing 0 (clearCases 48) ≡ []
+unfolding comparing clearCases
+clears-hold-48 = refl
+
+places-hold-48 : failing 0 (placeCases 48) ≡ []
+unfolding comparing placeCases
+places-hold-48 = refl
+
+pub cases-hold-48 : CasesHold 48
+cases-hold-48 = cases-by 48 document-hold-48 weights-hold-48 clears-hold-48 places-hold-48

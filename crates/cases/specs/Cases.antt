@@ -1,5 +1,5 @@
--- Document 01, 'Cases to prove as a single statement over one list', weights in a digits field, and clears in inverse video, on a fresh memory of `rows` rows. Each case compares
--- everything that its sentence names, and the whole memory where nothing or only a stretch changes. Assumes nothing.
+-- Document 01, 'Cases to prove as a single statement over one list', weights in a digits field, clears in inverse video, and the last places, on a fresh memory of `rows` rows.
+-- Each case compares everything that its sentence names, and the whole memory where nothing or only a stretch changes. Assumes nothing.
 use Prim.Native.Nat.{ℕ, _+_, _-_, _*_, _/_, _%_}
 use mathlib.Core.Path.{_≡_}
 use mathlib.Core.Bool.{Bool, true, false, cond, _&&_}
@@ -223,9 +223,31 @@ clearCases rows =
     ∷ clears rows form (inLastRow rows (55 ∷ 49 ∷ [])) 74 264 (65 ∷ []) (33 ∷ [])
     ∷ []
 
+-- ---- the last places of the memory and of the window
+unfoldable pub placeCases : ℕ → List Bool
+placeCases rows =
+    -- ESC & a 200 R gives the last row, and the window's last top shows it
+    (let h = fed rows (start rows) (27 ∷ 38 ∷ 97 ∷ 50 ∷ 48 ∷ 48 ∷ 82 ∷ []) (room rows) in
+    gives rows 0 7 [] h && standsAt (rows - 1) 0 (rows - 24) (h .world) && sameMemory (h .world) (start rows))
+    -- four next pages, ESC U, give that top
+    ∷ (let v = after rows (27 ∷ 85 ∷ 27 ∷ 85 ∷ 27 ∷ 85 ∷ 27 ∷ 85 ∷ []) in standsAt (rows - 24) 0 (rows - 24) v && sameMemory v (start rows))
+    -- from the last cell right, ESC C, does not move
+    ∷ (let w = after rows (inLastRow rows (55 ∷ 57 ∷ [])) in let h = fed rows w (27 ∷ 67 ∷ []) (room rows) in standsAt (rows - 1) 79 (rows - 24) w && gives rows 0 2 [] h && sameWorld (h .world) w)
+    -- text in the last cell, format off: written there, then all rows move up, and the cursor is at column 0
+    ∷ (let v = after rows (inLastRow rows (55 ∷ 57 ∷ []) ++ (88 ∷ [])) in
+    standsAt (rows - 1) 0 (rows - 24) v && same (v .chars) (set (replicate (rows * 80) 32) ((rows - 1) * 80 - 1) 88) && same (v .attrs) (replicate (rows * 80) 0))
+    -- an only field, of the last cell: from the first cell tab goes to it, a post fills it, and the block sends it
+    ∷ (let w = after rows (inLastRow rows (55 ∷ 57 ∷ []) ++ (27 ∷ 91 ∷ 27 ∷ 87 ∷ 27 ∷ 38 ∷ 97 ∷ 48 ∷ 114 ∷ 48 ∷ 67 ∷ [])) in
+    let k = keyed rows w (room rows) 262 in
+    let p = postedTo rows (k .world) 0 (88 ∷ []) in
+    let h = fed rows (p .world) (27 ∷ 100 ∷ 17 ∷ []) (room rows) in
+    standsAt 0 0 0 w && eqb (k .number) 0 && standsAt (rows - 1) 79 (rows - 24) (k .world)
+    && eqb (p .number) 0 && same (p .world .chars) (set (replicate (rows * 80) 32) (rows * 80 - 1) 88) && gives rows 0 3 (88 ∷ 30 ∷ []) h)
+    ∷ []
+
 -- ---- all of them, in one list
 unfoldable pub cases : ℕ → List Bool
-cases rows = documentCases rows ++ (weightCases rows ++ clearCases rows)
+cases rows = documentCases rows ++ (weightCases rows ++ (clearCases rows ++ placeCases rows))
 
 -- the places of the cases that fail
 unfoldable pub failing : ℕ → List Bool → List ℕ

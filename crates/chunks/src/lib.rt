@@ -1,6 +1,6 @@
-// A chunk of a file, run on the terminal and told: session records, or a part of a host stream.
+// A chunk of a file, run on the terminal and told: session records, or a part of a host stream. `rows` is the number of rows of its memory, 24 to 96.
 ghost use mathlib.Core.Path.{_≡_};
-ghost use Prim.Native.Nat.{_+_, min};
+ghost use Prim.Native.Nat.{_+_, _≤_, min};
 use printing::Output;
 use printing::Page;
 use terminal::Terminal;
@@ -17,16 +17,27 @@ pub struct Progress {
 pub fn answer(
     p: Progress,
     page: &mut Page,
-    chars: &mut [u8; 3840],
-    attrs: &mut [u8; 3840],
+    rows: usize,
+    chars: &mut [u8],
+    attrs: &mut [u8],
     bytes: &[u8],
-    lines: &mut [u8; 7680],
-) -> Progress {
+    lines: &mut [u8],
+) -> Progress
+    requires { ⌜ (24 ≤ rows) × (rows ≤ 96) ⌝ }
+{
     let mut q = p;
     let mut at = 0;
     let mut calls = bytes.len();
     loop {
-        let a = sessions::run_records(q.state, chars, attrs, q.number, &bytes[at..], lines);
+        let a = sessions::run_records_on(
+            q.state,
+            rows,
+            chars,
+            attrs,
+            q.number,
+            &bytes[at..],
+            lines,
+        );
         let out = print_first(q.out, page, lines, a.written);
         let state = a.state;
         q = Progress {
@@ -47,7 +58,7 @@ pub fn answer(
 }
 
 // The end line of a session.
-pub fn end(p: Progress, page: &mut Page, line: &mut [u8; 7680]) -> Output {
+pub fn end(p: Progress, page: &mut Page, line: &mut [u8]) -> Output {
     let t = p.state;
     let n = sessions::write_end(t.cursor, line);
     print_first(p.out, page, line, n)
@@ -64,17 +75,20 @@ fn print_first(out: Output, page: &mut Page, lines: &[u8], n: usize) -> Output {
 pub fn feed(
     p: Progress,
     page: &mut Page,
-    chars: &mut [u8; 3840],
-    attrs: &mut [u8; 3840],
+    rows: usize,
+    chars: &mut [u8],
+    attrs: &mut [u8],
     bytes: &[u8],
-    reply: &mut [u8; 7680],
+    reply: &mut [u8],
     is_raw: bool,
-) -> Progress {
+) -> Progress
+    requires { ⌜ (24 ≤ rows) × (rows ≤ 96) ⌝ }
+{
     let mut q = p;
     let mut at = 0;
     let mut calls = bytes.len();
     loop {
-        let a = host::host(q.state, chars, attrs, &bytes[at..], reply);
+        let a = host::host_on(q.state, rows, chars, attrs, &bytes[at..], reply);
         let out = tell(q.out, page, reply, a.written, q.some, is_raw);
         let state = a.state;
         q = Progress {
@@ -98,17 +112,20 @@ pub fn feed(
 pub fn show(
     p: Progress,
     page: &mut Page,
-    chars: &mut [u8; 3840],
-    attrs: &mut [u8; 3840],
+    rows: usize,
+    chars: &mut [u8],
+    attrs: &mut [u8],
     bytes: &[u8],
-    reply: &mut [u8; 7680],
+    reply: &mut [u8],
     is_raw: bool,
-) -> Progress {
+) -> Progress
+    requires { ⌜ (24 ≤ rows) × (rows ≤ 96) ⌝ }
+{
     let mut q = p;
     let mut at = 0;
     while 84 <= bytes.len() - at {
         let end = at + 84;
-        q = show_record(q, page, chars, attrs, &bytes[at..end], reply, is_raw);
+        q = show_record(q, page, rows, chars, attrs, &bytes[at..end], reply, is_raw);
         at = end;
     }
     q
@@ -118,19 +135,22 @@ pub fn show(
 fn show_record(
     p: Progress,
     page: &mut Page,
-    chars: &mut [u8; 3840],
-    attrs: &mut [u8; 3840],
+    rows: usize,
+    chars: &mut [u8],
+    attrs: &mut [u8],
     record: &[u8],
-    reply: &mut [u8; 7680],
+    reply: &mut [u8],
     is_raw: bool,
-) -> Progress {
+) -> Progress
+    requires { ⌜ (24 ≤ rows) × (rows ≤ 96) ⌝ }
+{
     let mut out = begin(p.out, page, p.number, is_raw);
     let mut t = p.state;
     let mut some = false;
     let mut at = 0;
     let mut calls = record.len();
     loop {
-        let a = records::run_from(t, chars, attrs, record, at, reply);
+        let a = records::run_from_on(t, rows, chars, attrs, record, at, reply);
         out = tell(out, page, reply, a.written, some, is_raw);
         some = is_some(some, a.written);
         t = a.state;

@@ -1,14 +1,26 @@
 // What stands behind the last record of a file: the terminal, or why the file could not be read.
+ghost use Prim.Native.Nat.{_≤_};
 use libc::STDERR_FILENO;
 use printing::Output;
 use printing::Page;
 use terminal::Terminal;
 
-// What a file is asked for: the lines of a session, or a terminal to be shown after session records, or after a host stream; as a picture, or raw for scripts.
+// What a file is asked for: the lines of a session, or a terminal to be shown after session records, or after a host stream; as a picture, or raw for scripts; of a
+// terminal of 96 rows, or of 48.
 pub struct Way {
     pub is_session: bool,
     pub is_host: bool,
     pub is_raw: bool,
+    pub is_48: bool,
+}
+
+impl Way {
+    // The number of rows of the terminal's memory.
+    pub fn rows(self) -> usize
+        ensures { λ r. ⌜ (24 ≤ r) × (r ≤ 96) ⌝ }
+    {
+        if self.is_48 { 48 } else { 96 }
+    }
 }
 
 // A file that cannot be read to its end has no end line, no picture and no state. The line of replies to a host stream ends.
@@ -22,8 +34,8 @@ pub fn finish(
     out: Output,
     page: &mut Page,
     t: Terminal,
-    chars: &[u8; 3840],
-    attrs: &[u8; 3840],
+    chars: &[u8],
+    attrs: &[u8],
     way: Way,
     number: u64,
     rest: usize,
@@ -31,10 +43,10 @@ pub fn finish(
 ) -> Output {
     if way.is_raw {
         let out = end_replies(out, page, way.is_host, number, rest, name);
-        return listing::print(out, page, t, chars, attrs);
+        return listing::print(out, page, t, way.rows(), chars, attrs);
     }
     let out = print_rest(out, page, way.is_host, number, rest);
-    picture::print(out, page, t, chars, attrs)
+    picture::print(out, page, t, way.rows(), chars, attrs)
 }
 
 // That the input ends inside a record. A host stream has none.

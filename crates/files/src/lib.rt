@@ -9,17 +9,41 @@ use terminal::Terminal;
 
 // Reads the file and prints what is asked for; `name` is what a failure calls it.
 pub fn run(out: Output, page: &mut Page, way: Way, fd: i32, name: &[u8]) -> Output {
-    let mut chars = [32u8; 3840];
-    let mut attrs = [0u8; 3840];
-    let mut room = [0u8; 7680];
-    let r = read(out, page, &mut chars, &mut attrs, &mut room, way, fd);
+    let mut chars = [32u8; 7680];
+    let mut attrs = [0u8; 7680];
+    let mut room = [0u8; 15360];
+    let cells = way.rows() * 80;
+    run_on(
+        out,
+        page,
+        &mut chars[..cells],
+        &mut attrs[..cells],
+        &mut room[..2 * cells],
+        way,
+        fd,
+        name,
+    )
+}
+
+// The same, with the memory lent, and a room that takes replies, or the lines of a session.
+fn run_on(
+    out: Output,
+    page: &mut Page,
+    chars: &mut [u8],
+    attrs: &mut [u8],
+    room: &mut [u8],
+    way: Way,
+    fd: i32,
+    name: &[u8],
+) -> Output {
+    let r = read(out, page, chars, attrs, room, way, fd);
     let p = r.progress;
     if r.is_well {
         if way.is_session {
-            return chunks::end(p, page, &mut room);
+            return chunks::end(p, page, room);
         }
         let t = p.state;
-        return endings::finish(p.out, page, t, &chars, &attrs, way, p.number, r.rest, name);
+        return endings::finish(p.out, page, t, chars, attrs, way, p.number, r.rest, name);
     }
     endings::break_off(p.out, page, way, name)
 }
@@ -36,9 +60,9 @@ struct Chunk {
 fn read(
     out: Output,
     page: &mut Page,
-    chars: &mut [u8; 3840],
-    attrs: &mut [u8; 3840],
-    room: &mut [u8; 7680],
+    chars: &mut [u8],
+    attrs: &mut [u8],
+    room: &mut [u8],
     way: Way,
     fd: i32,
 ) -> Chunk {
@@ -74,10 +98,10 @@ fn start(out: Output, page: &mut Page, way: Way) -> Progress {
 fn read_chunk(
     p: Progress,
     page: &mut Page,
-    chars: &mut [u8; 3840],
-    attrs: &mut [u8; 3840],
+    chars: &mut [u8],
+    attrs: &mut [u8],
     bytes: &mut [u8],
-    room: &mut [u8; 7680],
+    room: &mut [u8],
     way: Way,
     fd: i32,
 ) -> Chunk {
@@ -92,23 +116,23 @@ fn read_chunk(
     }
 }
 
-// `room` takes replies, or the lines of a session.
 fn run_chunk(
     p: Progress,
     page: &mut Page,
-    chars: &mut [u8; 3840],
-    attrs: &mut [u8; 3840],
+    chars: &mut [u8],
+    attrs: &mut [u8],
     bytes: &[u8],
-    room: &mut [u8; 7680],
+    room: &mut [u8],
     way: Way,
 ) -> Progress {
+    let rows = way.rows();
     if way.is_session {
-        return chunks::answer(p, page, chars, attrs, bytes, room);
+        return chunks::answer(p, page, rows, chars, attrs, bytes, room);
     }
     if way.is_host {
-        return chunks::feed(p, page, chars, attrs, bytes, room, way.is_raw);
+        return chunks::feed(p, page, rows, chars, attrs, bytes, room, way.is_raw);
     }
-    chunks::show(p, page, chars, attrs, bytes, room, way.is_raw)
+    chunks::show(p, page, rows, chars, attrs, bytes, room, way.is_raw)
 }
 
 fn is_over(got: Filled, out: Output) -> bool {

@@ -2,7 +2,7 @@
 use Prim.Native.Nat.{ℕ, _+_, _-_, _%_}
 use mathlib.Core.Bool.{cond, not}
 use mathlib.Core.List.{List, [], _∷_}
-use lib.ListN.{length}
+use lib.ListN.{length, take}
 use lib.Dec.{leb, eqb}
 use Rattle.cells.specs.Memory.{written}
 use Rattle.reading.specs.Action as Action
@@ -61,6 +61,10 @@ hosted number taken written w reply = record { number = number; taken = taken; w
 
 abbrev pub hostLeft : HostAnswer → List ℕ → List ℕ → List ℕ → Hosted
 hostLeft r chars attrs reply = hosted (r .number) (r .taken) (r .written) (world (r .state) chars attrs) reply
+
+-- the same with those bytes of the reply buffer alone that the call wrote
+abbrev pub delivered : Hosted → Hosted
+delivered h = hosted (h .number) (h .taken) (h .written) (h .world) (take (h .written) (h .reply))
 
 -- byte by byte, `taken` and `sent` so far; 7 stops before the byte whose reply does not fit
 unfoldable pub fedOn : ℕ → List ℕ → ℕ → ℕ → World → List ℕ → Hosted

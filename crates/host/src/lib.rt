@@ -357,7 +357,7 @@ fn feed_on(
 }
 
 // Host bytes, in a memory of `rows` rows.
-fn host_on(
+pub fn host_on(
     t: Terminal,
     rows: usize,
     chars: &mut [u8],
@@ -387,8 +387,21 @@ fn host_on(
     feed_on(t, rows, chars, attrs, bytes, reply)
 }
 
-// Host bytes. Takes any state, any buffers and any bytes; 1 and 2 change nothing, 7 stops before the byte whose reply does not fit.
+// Host bytes, in a memory of 96 rows. Takes any state, any buffers and any bytes; 1 and 2 change nothing, 7 stops before the byte whose reply does not fit.
 pub fn host(
+    t: Terminal,
+    chars: &mut [u8],
+    attrs: &mut [u8],
+    bytes: &[u8],
+    reply: &mut [u8],
+) -> HostAnswer
+    ensures { λ r. ⌜ hostLeft r (now (chars .exit)) (now (attrs .exit)) (now (reply .exit)) ≡ fed 96 (world t (now (chars .entry)) (now (attrs .entry))) (now (bytes .entry)) (now (reply .entry)) ⌝ }
+{
+    host_on(t, 96, chars, attrs, bytes, reply)
+}
+
+// `host` in a memory of 48 rows.
+pub fn host_48(
     t: Terminal,
     chars: &mut [u8],
     attrs: &mut [u8],

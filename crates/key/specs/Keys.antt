@@ -2,7 +2,7 @@
 use Prim.Native.Nat.{ℕ, _%_}
 use mathlib.Core.Bool.{Bool, false, cond, _&&_, not}
 use mathlib.Core.List.{List, [], _∷_}
-use lib.ListN.{length, set}
+use lib.ListN.{length, take, set}
 use lib.Dec.{ltb, eqb}
 use Rattle.cells.specs.declared.Found.{Found}
 use Rattle.cells.specs.declared.Found.the-variants.{At, Nothing}
@@ -77,6 +77,10 @@ pub record Keyed : Type 0 where
 
 abbrev pub keyLeft : KeyAnswer → List ℕ → List ℕ → List ℕ → Keyed
 keyLeft r chars attrs reply = record { number = r .number; written = r .written; world = world (r .state) chars attrs; reply = reply }
+
+-- the same with those bytes of the reply buffer alone that the call wrote
+abbrev pub delivered : Keyed → Keyed
+delivered k = record { number = k .number; written = k .written; world = k .world; reply = take (k .written) (k .reply) }
 
 -- the key's action; ENTER also sends byte 18
 unfoldable pub keyDone : ℕ → World → List ℕ → ℕ → Keyed

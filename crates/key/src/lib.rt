@@ -199,7 +199,7 @@ fn admit(n: u8, code: u16) -> u16
 }
 
 // A key, in a memory of `rows` rows. A refused key goes the same way, so that the answer is put together in one place.
-fn key_on(
+pub fn key_on(
     t: Terminal,
     rows: usize,
     chars: &mut [u8],
@@ -221,8 +221,21 @@ fn key_on(
     }
 }
 
-// A key. Takes any state, any buffers and any code; a refusal changes nothing. ENTER writes byte 18 to the reply.
+// A key, in a memory of 96 rows. Takes any state, any buffers and any code; a refusal changes nothing. ENTER writes byte 18 to the reply.
 pub fn key(
+    t: Terminal,
+    chars: &mut [u8],
+    attrs: &mut [u8],
+    code: u16,
+    reply: &mut [u8],
+) -> KeyAnswer
+    ensures { λ r. ⌜ keyLeft r (now (chars .exit)) (now (attrs .exit)) (now (reply .exit)) ≡ keyed 96 (world t (now (chars .entry)) (now (attrs .entry))) (now (reply .entry)) code ⌝ }
+{
+    key_on(t, 96, chars, attrs, code, reply)
+}
+
+// `key` in a memory of 48 rows.
+pub fn key_48(
     t: Terminal,
     chars: &mut [u8],
     attrs: &mut [u8],

@@ -1,17 +1,27 @@
 // The terminal in lines for scripts: replies, the state and the memory; and its state in words.
 pub mod words;
 
+ghost use Prim.Native.Nat.{_≤_, _<_};
 use printing::Output;
 use printing::Page;
 use terminal::Terminal;
 
-// The state in one line, then each row's characters and attributes in hexadecimal.
-pub fn print(out: Output, page: &mut Page, t: Terminal, chars: &[u8], attrs: &[u8]) -> Output {
+// The state in one line, then the characters and attributes of each of the memory's rows in hexadecimal.
+pub fn print(
+    out: Output,
+    page: &mut Page,
+    t: Terminal,
+    rows: usize,
+    chars: &[u8],
+    attrs: &[u8],
+) -> Output
+    requires { ⌜ rows ≤ 96 ⌝ }
+{
     let out = print_place(out, page, t);
     let out = print_reading(out, page, t);
     let tabs = t.tabs;
     let out = print_stops(out, page, tabs);
-    print_memory(out, page, chars, attrs)
+    print_memory(out, page, rows, chars, attrs)
 }
 
 // The start of a line of reply bytes.
@@ -57,24 +67,30 @@ fn print_stops(out: Output, page: &mut Page, tabs: [bool; 80]) -> Output {
     printing::text(o, page, b"\n")
 }
 
-fn print_memory(out: Output, page: &mut Page, chars: &[u8], attrs: &[u8]) -> Output {
+fn print_memory(out: Output, page: &mut Page, rows: usize, chars: &[u8], attrs: &[u8]) -> Output
+    requires { ⌜ rows ≤ 96 ⌝ }
+{
     let mut o = out;
-    for row in 0..48 {
+    for row in 0..rows {
         o = print_row(o, page, b"chars ", row, chars);
         o = print_row(o, page, b"attrs ", row, attrs);
     }
     o
 }
 
-fn print_row(out: Output, page: &mut Page, word: &[u8], row: usize, memory: &[u8]) -> Output {
+fn print_row(out: Output, page: &mut Page, word: &[u8], row: usize, memory: &[u8]) -> Output
+    requires { ⌜ row < 96 ⌝ }
+{
     let out = printing::named(out, page, word, row);
     let out = printing::text(out, page, b" ");
     let out = print_bytes(out, page, row, memory);
     printing::text(out, page, b"\n")
 }
 
-fn print_bytes(out: Output, page: &mut Page, row: usize, memory: &[u8]) -> Output {
-    let from = row % 48 * 80;
+fn print_bytes(out: Output, page: &mut Page, row: usize, memory: &[u8]) -> Output
+    requires { ⌜ row < 96 ⌝ }
+{
+    let from = row * 80;
     let to = from + 80;
     if to <= memory.len() {
         return printing::hex(out, page, &memory[from..to]);

@@ -1,20 +1,39 @@
 // The terminal as a picture in text: the state in words, then the rows with their fields and enhancements, the cursor and the window.
+ghost use Prim.Native.Nat.{_≤_, _<_};
 use cursor::Cursor;
 use printing::Output;
 use printing::Page;
 use terminal::Terminal;
 
-// The whole picture.
-pub fn print(out: Output, page: &mut Page, t: Terminal, chars: &[u8], attrs: &[u8]) -> Output {
+// The whole picture, of a memory of `rows` rows.
+pub fn print(
+    out: Output,
+    page: &mut Page,
+    t: Terminal,
+    rows: usize,
+    chars: &[u8],
+    attrs: &[u8],
+) -> Output
+    requires { ⌜ rows ≤ 96 ⌝ }
+{
     let out = listing::words::print(out, page, t);
-    print_rows(out, page, t.cursor, chars, attrs)
+    print_rows(out, page, t.cursor, rows, chars, attrs)
 }
 
 // The rows of the memory. Blank rows that hold neither a field nor the cursor are counted and left out.
-fn print_rows(out: Output, page: &mut Page, cursor: Cursor, chars: &[u8], attrs: &[u8]) -> Output {
+fn print_rows(
+    out: Output,
+    page: &mut Page,
+    cursor: Cursor,
+    rows: usize,
+    chars: &[u8],
+    attrs: &[u8],
+) -> Output
+    requires { ⌜ rows ≤ 96 ⌝ }
+{
     let mut o = print_ruler(out, page);
     let mut left_out = 0;
-    for row in 0..48 {
+    for row in 0..rows {
         if is_left_out(row, cursor.row, chars, attrs) {
             left_out += 1;
         } else {
@@ -49,30 +68,27 @@ fn print_left_out(out: Output, page: &mut Page, rows: usize) -> Output {
 }
 
 // Whether a row has blanks alone, no mark and not the cursor.
-fn is_left_out(row: usize, cursor: usize, chars: &[u8], attrs: &[u8]) -> bool {
+fn is_left_out(row: usize, cursor: usize, chars: &[u8], attrs: &[u8]) -> bool
+    requires { ⌜ row < 96 ⌝ }
+{
     if row == cursor {
         return false;
     }
     for col in 0..80 {
-        if !is_empty(row, col, chars, attrs) {
+        if !is_empty(row * 80 + col, chars, attrs) {
             return false;
         }
     }
     true
 }
 
-fn is_empty(row: usize, col: usize, chars: &[u8], attrs: &[u8]) -> bool {
-    let cell = cell_of(row, col);
+fn is_empty(cell: usize, chars: &[u8], attrs: &[u8]) -> bool {
     if cell < chars.len() {
         if cell < attrs.len() {
             return chars[cell] == 32 && attrs[cell] == 0;
         }
     }
     true
-}
-
-fn cell_of(row: usize, col: usize) -> usize {
-    row % 48 * 80 + col % 80
 }
 
 // The row's number, behind `>` where the window shows it, its cells, the letters of its fields and of its enhancements, and `^` under the cursor.
@@ -83,7 +99,9 @@ fn print_row(
     cursor: Cursor,
     chars: &[u8],
     attrs: &[u8],
-) -> Output {
+) -> Output
+    requires { ⌜ row < 96 ⌝ }
+{
     let out = print_number(out, page, row, is_shown(row, cursor.top));
     let out = print_cells(out, page, row, chars, attrs);
     let out = print_letters(out, page, row, attrs, false);
@@ -107,10 +125,12 @@ fn print_number(out: Output, page: &mut Page, row: usize, is_shown: bool) -> Out
     printing::named(out, page, b"", row)
 }
 
-fn print_cells(out: Output, page: &mut Page, row: usize, chars: &[u8], attrs: &[u8]) -> Output {
+fn print_cells(out: Output, page: &mut Page, row: usize, chars: &[u8], attrs: &[u8]) -> Output
+    requires { ⌜ row < 96 ⌝ }
+{
     let mut line = [32u8; 80];
     for col in 0..80 {
-        line[col] = face_of(row, col, chars, attrs);
+        line[col] = face_of(row * 80 + col, chars, attrs);
     }
     print_line(out, page, b"  |", &line, b"|\n")
 }
@@ -122,11 +142,13 @@ fn print_letters(
     row: usize,
     attrs: &[u8],
     of_enhancements: bool,
-) -> Output {
+) -> Output
+    requires { ⌜ row < 96 ⌝ }
+{
     let mut line = [32u8; 80];
     let mut some = false;
     for col in 0..80 {
-        let letter = letter_of(row, col, attrs, of_enhancements);
+        let letter = letter_of(row * 80 + col, attrs, of_enhancements);
         line[col] = letter;
         if letter != 32 {
             some = true;
@@ -164,8 +186,7 @@ fn print_line(
 }
 
 // What a cell looks like: its character, `_` for a blank of an unprotected field, `?` for a byte that has no character.
-fn face_of(row: usize, col: usize, chars: &[u8], attrs: &[u8]) -> u8 {
-    let cell = cell_of(row, col);
+fn face_of(cell: usize, chars: &[u8], attrs: &[u8]) -> u8 {
     if cell < chars.len() {
         if cell < attrs.len() {
             return face(chars[cell], fields::is_unprotected(attrs, cell));
@@ -185,8 +206,7 @@ fn face(v: u8, is_unprotected: bool) -> u8 {
 }
 
 // The letter of a cell's field or of its enhancement, a blank where it has none.
-fn letter_of(row: usize, col: usize, attrs: &[u8], of_enhancements: bool) -> u8 {
-    let cell = cell_of(row, col);
+fn letter_of(cell: usize, attrs: &[u8], of_enhancements: bool) -> u8 {
     if cell < attrs.len() {
         if of_enhancements {
             return enhancement_letter(attrs[cell]);

@@ -87,7 +87,7 @@ fn post_to(
 }
 
 // A post, in a memory of `rows` rows.
-fn post_on(
+pub fn post_on(
     t: Terminal,
     rows: usize,
     chars: &mut [u8],
@@ -105,8 +105,15 @@ fn post_on(
     }
 }
 
-// A post. Takes any state, any buffers, any field number and any text; a refusal changes nothing.
+// A post, in a memory of 96 rows. Takes any state, any buffers, any field number and any text; a refusal changes nothing.
 pub fn post(t: Terminal, chars: &mut [u8], attrs: &[u8], field: usize, text: &[u8]) -> PostAnswer
+    ensures { λ r. ⌜ postLeft r (now (chars .exit)) (now (attrs .entry)) ≡ postedTo 96 (world t (now (chars .entry)) (now (attrs .entry))) field (now (text .entry)) ⌝ }
+{
+    post_on(t, 96, chars, attrs, field, text)
+}
+
+// `post` in a memory of 48 rows.
+pub fn post_48(t: Terminal, chars: &mut [u8], attrs: &[u8], field: usize, text: &[u8]) -> PostAnswer
     ensures { λ r. ⌜ postLeft r (now (chars .exit)) (now (attrs .entry)) ≡ postedTo 48 (world t (now (chars .entry)) (now (attrs .entry))) field (now (text .entry)) ⌝ }
 {
     post_on(t, 48, chars, attrs, field, text)

@@ -11,6 +11,7 @@ pub struct Asked {
 pub fn find(is_session: bool) -> Asked {
     let mut is_host = false;
     let mut is_raw = false;
+    let mut is_48 = false;
     let mut is_bad = false;
     let mut files = 0;
     let n = os::arg_count();
@@ -19,7 +20,8 @@ pub fn find(is_session: bool) -> Asked {
         match word_at(is_session, i) {
             1 => is_raw = true,
             2 => is_host = true,
-            3 => is_bad = true,
+            3 => is_48 = true,
+            4 => is_bad = true,
             _ => files = more(files),
         }
         i += 1;
@@ -28,6 +30,7 @@ pub fn find(is_session: bool) -> Asked {
         is_session: is_session,
         is_host: is_host,
         is_raw: is_raw,
+        is_48: is_48,
     };
     Asked {
         way: way,
@@ -45,12 +48,17 @@ pub fn is_file(is_session: bool, i: usize) -> bool {
     word_at(is_session, i) == 0
 }
 
-// 0 for the name of a file, 1 for `raw` and 2 for `host`, which `session` takes for files, 3 for a word that begins with `-`.
+// 0 for the name of a file, 1 for `raw` and 2 for `host`, which `session` takes for files, 3 for `48`, 4 for a word that begins with `-`.
 fn word_at(is_session: bool, i: usize) -> u8 {
     let mut word = [0u8; 8];
     let n = os::arg(i, &mut word);
     if word[0] == b'-' {
-        return 3;
+        return 4;
+    }
+    if n == 2 {
+        if word[0] == b'4' && word[1] == b'8' {
+            return 3;
+        }
     }
     if is_session {
         return 0;

@@ -13,7 +13,7 @@ pub fn session() {
     if a.is_bad {
         io::write_all(
             STDERR_FILENO,
-            b"usage: session [FILE..]\nRuns session records, of standard input where no FILE is named, and prints the answer to each. Write ./-x for a FILE named -x.\n",
+            b"usage: session [48] [FILE..]\nRuns session records, of standard input where no FILE is named, and prints the answer to each, from a terminal of 96 rows or, with 48, of 48.\nWrite ./48 for a FILE named 48, ./-x for one named -x.\n",
         );
     } else {
         run_all(a);
@@ -26,7 +26,7 @@ pub fn show() {
     if a.is_bad {
         io::write_all(
             STDERR_FILENO,
-            b"usage: show [host] [raw] [FILE..]\nShows the terminal after session records, or with host after a raw host stream, of standard input where no FILE is named; raw prints for scripts.\nWrite ./raw for a FILE named raw, ./-x for one named -x.\n",
+            b"usage: show [48] [host] [raw] [FILE..]\nShows a terminal of 96 rows, or with 48 of 48 rows, after session records, or with host after a raw host stream, of standard input where no FILE is named; raw prints for scripts.\nWrite ./raw for a FILE named raw, ./-x for one named -x.\n",
         );
     } else {
         run_all(a);

@@ -1,8 +1,11 @@
--- The one theorem: every promise is kept. Over 24 to 96 rows where a promise is said over rows, and on 48 rows where it is computed. Assumes nothing.
+-- The one theorem: every promise is kept, of a terminal of 96 rows and of one of 48. What is computed is computed on both, all else holds of 24 to 96. Assumes nothing.
 use Prim.Native.Nat.{ℕ, _≤_}
 use native.Mathlib.Omega.{arith}
+use Rattle.key.proofs.Rooms.{keyed-room}
+use Rattle.host.proofs.Rooms.{fed-room}
+use Rattle.records.proofs.Rooms.{part-room}
 use Rattle.cases.specs.Cases.{CasesHold}
-use Rattle.cases.proofs.Computed.{cases-hold}
+use Rattle.cases.proofs.Computed.{cases-hold-96, cases-hold-48}
 use Rattle.mixing.proofs.Mixes.{mixed-exactly}
 use Rattle.promises.specs.Form.{FormCovered, LockedCovered, PendingCovered, BareCovered, ReachNeeded, EnterBars, PostsKeepOrder, OrderShows}
 use Rattle.promises.specs.Example.{SessionExample}
@@ -14,9 +17,9 @@ use Rattle.promises.proofs.Accepted.{post-writes}
 use Rattle.promises.proofs.Protected.{protected-stay}
 use Rattle.promises.proofs.Records.{part-numbers, record-numbers, record-refusals, host-records}
 use Rattle.promises.proofs.Sessions.{part-is-once, record-is-once, lines-is-once, end-is-once, session-lines, session-numbered, session-good, session-in-parts}
-use Rattle.promises.proofs.Example.{session-example}
+use Rattle.promises.proofs.Example.{session-example-96, session-example-48}
 use Rattle.promises.proofs.Mixing.{mixes-agree}
-use Rattle.promises.proofs.Witness.{form-covered, locked-covered, pending-covered, bare-covered, reach-needed, enter-bars, posts-keep-order, order-shows}
+use Rattle.promises.proofs.Witness.{form-covered-96, form-covered-48, locked-covered-96, locked-covered-48, pending-covered-96, pending-covered-48, bare-covered-96, bare-covered-48, reach-needed-96, reach-needed-48, enter-bars-96, enter-bars-48, posts-keep-order-96, posts-keep-order-48, order-shows-96, order-shows-48}
 
 -- the promises that are computed, on a memory of `rows` rows
 pub record Computed (rows : ℕ) : Type 0 where
@@ -51,11 +54,14 @@ kept-on rows some few c =
       host-numbers = host-numbers rows;
       post-writes = post-writes rows few;
       protected-stay = protected-stay rows few;
+      key-rooms = keyed-room rows;
+      host-rooms = fed-room rows;
       cases-hold = c .cases-hold;
       part-numbers = part-numbers rows;
       record-numbers = record-numbers rows some few;
       record-refusals = record-refusals rows some few;
       host-records = host-records rows some few;
+      part-rooms = part-room rows;
       session-lines = session-lines rows some few;
       session-numbered = session-numbered rows;
       session-good = session-good rows some few;
@@ -77,18 +83,34 @@ kept-on rows some few c =
       order-shows = c .order-shows;
     }
 
-pub kept : Promises 48
+pub kept : Promises 96
 kept =
+    kept-on 96 (omega arith) (omega arith)
+    (record {
+      cases-hold = cases-hold-96;
+      session-example = session-example-96;
+      form-covered = form-covered-96;
+      locked-covered = locked-covered-96;
+      pending-covered = pending-covered-96;
+      bare-covered = bare-covered-96;
+      reach-needed = reach-needed-96;
+      enter-bars = enter-bars-96;
+      posts-keep-order = posts-keep-order-96;
+      order-shows = order-shows-96;
+    })
+
+pub kept-48 : Promises 48
+kept-48 =
     kept-on 48 (omega arith) (omega arith)
     (record {
-      cases-hold = cases-hold;
-      session-example = session-example;
-      form-covered = form-covered;
-      locked-covered = locked-covered;
-      pending-covered = pending-covered;
-      bare-covered = bare-covered;
-      reach-needed = reach-needed;
-      enter-bars = enter-bars;
-      posts-keep-order = posts-keep-order;
-      order-shows = order-shows;
+      cases-hold = cases-hold-48;
+      session-example = session-example-48;
+      form-covered = form-covered-48;
+      locked-covered = locked-covered-48;
+      pending-covered = pending-covered-48;
+      bare-covered = bare-covered-48;
+      reach-needed = reach-needed-48;
+      enter-bars = enter-bars-48;
+      posts-keep-order = posts-keep-order-48;
+      order-shows = order-shows-48;
     })

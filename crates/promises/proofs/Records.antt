@@ -26,7 +26,7 @@ use Rattle.host.proofs.Longest.{fed-takes, fed-number}
 use Rattle.records.specs.Records.{kindOf, lengthOf, numberOf, dataOf, formRefusal, Part, part, hostPart, keyPart, postPart, recordPart, Ran, ran, emptied, ranFrom, recordRan}
 use Rattle.records.proofs.Forms.{formed, form-not-7, data-part, data-short}
 use Rattle.records.proofs.Running.{other-form, host-record, key-record, post-record, fed-within}
-use Rattle.records.proofs.Whole.{turn, last}
+use Rattle.records.proofs.Whole.{emptied-long, turn, last}
 use Rattle.records.proofs.Answered.{whole-once}
 use Rattle.mixing.specs.Event.{run}
 use Rattle.promises.specs.Numbers.{Entry, _for_, WrongSize, NotGood, sent, keyTable, postTable, hostTable}
@@ -146,14 +146,14 @@ module _ (rows : ℕ) (r : List ℕ) (f : formRefusal r ≡ 0) (k : kindOf r ≡
           let e : h .written + 0 ≡ sent rows rest w = rw d at (o .0) in
           let v : h .world ≡ run (stepped rows) rest w = rw d at (o .1) in
           let n : sum + h .written ≡ sum + sent rows rest w = omega arith in
-          sym (last rows w r at sum (host-call w at) calls (λ q. omega arith)) ∙ ended z n v
+          sym (last rows w r at sum (emptied rows) (emptied-long rows) (host-call w at) calls (λ q. omega arith)) ∙ ended z n v
       by (inr z) =
-          let t = fed-takes s rest (emptied rows) (length-replicate {A = ℕ} (rows * 160) 0) z in
+          let t = fed-takes s rest (emptied rows) (emptied-long rows) z in
           let i = more (omega (arith, length-drop at bytes, fed-within rows w rest (emptied rows) .taken-in)) in
           let d : drop (at + h .taken) bytes ≡ drop (h .taken) rest = sym (drop-drop (h .taken) at bytes) in
           let j : ranFrom rows calls (h .world) r (at + h .taken) (sum + h .written) ≡ ran 0 (sum + h .written + sent rows (drop (h .taken) rest) (h .world)) (run (stepped rows) (drop (h .taken) rest) (h .world)) = rw d at i in
           let n : sum + h .written + sent rows (drop (h .taken) rest) (h .world) ≡ sum + sent rows rest w = omega (arith, o .0) in
-          sym (turn rows w r at sum (host-call w at) calls z) ∙ j ∙ ended refl n (o .1)
+          sym (turn rows w r at sum (emptied rows) (emptied-long rows) (host-call w at) calls z) ∙ j ∙ ended refl n (o .1)
 
   from-done : (calls : ℕ) (w : World) (at sum : ℕ) → Sound rows w → length bytes - at < calls → AllDone calls w at sum
   from-done zero w at sum s l = absurd (omega arith)

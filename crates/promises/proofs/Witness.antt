@@ -1,11 +1,12 @@
--- Runs that the mixing promise covers, their outcomes, and runs that differ where one of its conditions does not hold, all computed on a memory of 48 rows.
--- Assumes nothing.
+-- Runs that the mixing promise covers, their outcomes, and runs that differ where one of its conditions does not hold: what they rest on over `rows` rows, and then all
+-- computed, on memories of 96 and of 48 rows. Assumes nothing.
 use mathlib.Core.Path.{_≡_, refl, ap, _∙_}
-use mathlib.Core.Bool.{true}
+use mathlib.Core.Bool.{true, false}
 use mathlib.Core.List.{List, [], _∷_}
-use Prim.Native.Nat.{ℕ}
+use Prim.Native.Nat.{ℕ, _≤_}
 use native.Mathlib.Omega.{arith}
 use lib.ListN.{getD}
+use lib.Dec.{eqb}
 use borrow.Author.Tests.{eqb-false}
 use Rattle.cursor.specs.declared.Cursor.{Cursor}
 use Rattle.terminal.specs.State.{World, freshWorld, Sound}
@@ -17,8 +18,8 @@ use Rattle.mixing.specs.Event.{key, post, run, answers, keysOf}
 use Rattle.mixing.specs.Mix.{Mixed, done, a-key, a-post, here, later}
 use Rattle.mixing.proofs.Mixes.{mixed-posts}
 use Rattle.cases.proofs.Rules.{rules}
-use Rattle.promises.specs.Mixing.{Key, handled, answered}
-use Rattle.promises.specs.Form.{Events, Posts, shown, numbers, form, lockedForm, awaited, bare, struck, keysFirst, postsFirst, posts, between, tag, Mixes, Covered, FormCovered, LockedCovered, PendingCovered, BareCovered, ReachNeeded, EnterBars, PostsKeepOrder, OrderShows}
+use Rattle.promises.specs.Mixing.{Key, handled, answered, Reach}
+use Rattle.promises.specs.Form.{Events, Posts, shown, numbers, p0, p2, posting, form, lockedForm, awaited, bare, struck, keysFirst, postsFirst, posts, between, tag, Mixes, Covered, Differ, Clash, FormCovered, LockedCovered, PendingCovered, BareCovered, ReachNeeded, EnterBars, PostsKeepOrder, OrderShows}
 use Rattle.promises.proofs.Sparing.{every, spares, keepApart, apart-by}
 use Rattle.promises.proofs.Mixing.{mixes-agree}
 
@@ -28,24 +29,22 @@ unfolding rules form lockedForm awaited bare
 machine = 0
 
 -- where the runs start
-fresh : Sound 48 (freshWorld 48)
-fresh = fresh-sound (omega arith) (omega arith)
+module _ {rows : ℕ} (some : 24 ≤ rows) (few : rows ≤ 96) where
+  form-sound : Sound rows (form rows)
+  unfolding form
+  form-sound = fed-sound (fresh-sound some few) _ _
 
-form-sound : Sound 48 (form 48)
-unfolding form
-form-sound = fed-sound fresh _ _
+  locked-sound : Sound rows (lockedForm rows)
+  unfolding lockedForm
+  locked-sound = fed-sound form-sound _ _
 
-locked-sound : Sound 48 (lockedForm 48)
-unfolding lockedForm
-locked-sound = fed-sound form-sound _ _
+  awaited-sound : Sound rows (awaited rows)
+  unfolding awaited
+  awaited-sound = fed-sound form-sound _ _
 
-awaited-sound : Sound 48 (awaited 48)
-unfolding awaited
-awaited-sound = fed-sound form-sound _ _
-
-bare-sound : Sound 48 (bare 48)
-unfolding bare
-bare-sound = fed-sound fresh _ _
+  bare-sound : Sound rows (bare rows)
+  unfolding bare
+  bare-sound = fed-sound (fresh-sound some few) _ _
 
 -- keys first and posts first are mixes
 posts-mix : (ps : Posts) → Mixed [] ps (keysFirst [] ps)
@@ -63,32 +62,32 @@ posts-first ks (p ∷ ps) = a-post here (posts-first ks ps)
 
 -- ---- runs that are covered
 -- the numbers of a run, with each event looked into once
-unfoldable tally : Events → World → List ℕ
-tally [] w = []
-tally (key k ∷ es) w =
-    let r = keyed 48 w (k .reply) (k .code) in
-    r .number ∷ tally es (r .world)
-tally (post field text ∷ es) w =
-    let r = postedTo 48 w field text in
-    r .number ∷ tally es (r .world)
+unfoldable tally : ℕ → Events → World → List ℕ
+tally rows [] w = []
+tally rows (key k ∷ es) w =
+    let r = keyed rows w (k .reply) (k .code) in
+    r .number ∷ tally rows es (r .world)
+tally rows (post field text ∷ es) w =
+    let r = postedTo rows w field text in
+    r .number ∷ tally rows es (r .world)
 
-tally-is : (es : Events) (w : World) → numbers (answers (handled 48) (answered 48) (λ e. true) es w) ≡ tally es w
+tally-is : (rows : ℕ) (es : Events) (w : World) → numbers (answers (handled rows) (answered rows) (λ e. true) es w) ≡ tally rows es w
 unfolding tally
-tally-is [] w = refl
-tally-is (key k ∷ es) w = ap (λ (l : List ℕ). keyed 48 w (k .reply) (k .code) .number ∷ l) (tally-is es (handled 48 (key k) w))
-tally-is (post field text ∷ es) w = ap (λ (l : List ℕ). postedTo 48 w field text .number ∷ l) (tally-is es (handled 48 (post field text) w))
+tally-is rows [] w = refl
+tally-is rows (key k ∷ es) w = ap (λ (l : List ℕ). keyed rows w (k .reply) (k .code) .number ∷ l) (tally-is rows es (handled rows (key k) w))
+tally-is rows (post field text ∷ es) w = ap (λ (l : List ℕ). postedTo rows w field text .number ∷ l) (tally-is rows es (handled rows (post field text) w))
 
 -- a run is covered where its tests pass
-cover : {w : World} {ks : List Key} {ps : Posts} {es es′ : Events} {end : List (List ℕ)} {ns : List ℕ} → Mixes 48 w ks ps es es′
-    → keepApart 48 ps ks w ≡ true → shown (run (handled 48) es′ w) ≡ end → tally es′ w ≡ ns → Covered 48 w ks ps es es′ end ns
-cover {w} {ks} {ps} {es} {es′} m a ends numbered =
-    let apart = apart-by 48 ps ks w a in
+cover : {rows : ℕ} {w : World} {ks : List Key} {ps : Posts} {es es′ : Events} {end : List (List ℕ)} {ns : List ℕ} → Mixes rows w ks ps es es′
+    → keepApart rows ps ks w ≡ true → shown (run (handled rows) es′ w) ≡ end → tally rows es′ w ≡ ns → Covered rows w ks ps es es′ end ns
+cover {rows} {w} {ks} {ps} {es} {es′} m a ends numbered =
+    let apart = apart-by rows ps ks w a in
     record {
       mixes = m;
       apart = apart;
-      agree = mixes-agree 48 w (m .sound) (m .on) ks ps apart es es′ (m .one-mixes) (m .other-mixes);
+      agree = mixes-agree rows w (m .sound) (m .on) ks ps apart es es′ (m .one-mixes) (m .other-mixes);
       ends = ends;
-      numbered = tally-is es′ w ∙ numbered;
+      numbered = tally-is rows es′ w ∙ numbered;
     }
 
 between-mixes : Mixed (keysOf between) posts between
@@ -97,86 +96,117 @@ between-mixes =
     (a-post here (a-key (a-key (a-key (a-key (a-key (a-key (a-key (a-key (a-post here (a-key (a-key (a-key (a-key (a-key (a-key (a-key (a-key (a-key (a-key
     (a-post here (a-key (a-key (a-key done))))))))))))))))))))))))))))))))
 
-pub form-covered : FormCovered 48
-unfolding machine every spares keepApart tally
-form-covered =
-    cover (record { sound = form-sound; on = refl; one-mixes = keys-first (keysOf between) posts; other-mixes = between-mixes }) refl refl refl
-
 -- keys first and posts first, from a sound world with format mode on
-both-ways : {w : World} → Sound 48 w → w .state .format ≡ true → (ks : List Key) (ps : Posts) → Mixes 48 w ks ps (keysFirst ks ps) (postsFirst ks ps)
+both-ways : {rows : ℕ} {w : World} → Sound rows w → w .state .format ≡ true → (ks : List Key) (ps : Posts) → Mixes rows w ks ps (keysFirst ks ps) (postsFirst ks ps)
 both-ways s on ks ps = record { sound = s; on = on; one-mixes = keys-first ks ps; other-mixes = posts-first ks ps }
 
-pub locked-covered : LockedCovered 48
-unfolding machine every spares keepApart tally
-locked-covered = cover (both-ways locked-sound refl _ _) refl refl refl
-
-pub pending-covered : PendingCovered 48
-unfolding machine every spares keepApart tally
-pending-covered = cover (both-ways awaited-sound refl _ _) refl refl refl
-
-pub bare-covered : BareCovered 48
-unfolding machine every spares keepApart tally
-bare-covered = cover (both-ways bare-sound refl _ _) refl refl refl
+-- keys first, and posts between the keys
+between-ways : {rows : ℕ} {w : World} → Sound rows w → w .state .format ≡ true → Mixes rows w (keysOf between) posts (keysFirst (keysOf between) posts) between
+between-ways s on = record { sound = s; on = on; one-mixes = keys-first (keysOf between) posts; other-mixes = between-mixes }
 
 -- ---- what the conditions are for
-form-mixes : (k : Key) → Mixes 48 (form 48) (k ∷ []) (tag ∷ []) (keysFirst (k ∷ []) (tag ∷ [])) (postsFirst (k ∷ []) (tag ∷ []))
-unfolding machine
-form-mixes k = both-ways form-sound refl (k ∷ []) (tag ∷ [])
+-- what two runs leave differs where a number in it does
+differ-by : {A : Type 0} (f : A → ℕ) {x y : A} → eqb (f x) (f y) ≡ false → ¬ (x ≡ y)
+differ-by f {x} {y} t e = eqb-false (f x) (f y) t (ap f e)
 
-pub reach-needed : ReachNeeded 48
-unfolding machine
-reach-needed =
-    record {
-      home-down =
-          record {
-            mixes = form-mixes (struck 261);
-            not-enter = eqb-false 261 273 refl;
-            reaches = (0, refl);
-            differ = λ e. eqb-false 0 1 refl (ap (λ (c : Cursor). c .row) e);
-          };
-      text =
-          record {
-            mixes = form-mixes (struck 65);
-            not-enter = eqb-false 65 273 refl;
-            reaches = (0, refl, refl);
-            differ = λ e. eqb-false 84 65 refl (ap (λ (l : List ℕ). getD l 0 0) e);
-          };
-      clear-display =
-          record {
-            mixes = form-mixes (struck 264);
-            not-enter = eqb-false 264 273 refl;
-            reaches = (0, omega arith, refl);
-            differ = λ e. eqb-false 84 32 refl (ap (λ (l : List ℕ). getD l 0 0) e);
-          };
-      clear-line =
-          record {
-            mixes = form-mixes (struck 265);
-            not-enter = eqb-false 265 273 refl;
-            reaches = refl;
-            differ = λ e. eqb-false 84 32 refl (ap (λ (l : List ℕ). getD l 0 0) e);
-          };
-      delete =
-          record {
-            mixes = form-mixes (struck 267);
-            not-enter = eqb-false 267 273 refl;
-            reaches = refl;
-            differ = λ e. eqb-false 84 65 refl (ap (λ (l : List ℕ). getD l 0 0) e);
-          };
-    }
+-- the character of a cell
+cell-differs : (k : ℕ) {xs ys : List ℕ} → eqb (getD xs k 0) (getD ys k 0) ≡ false → ¬ (xs ≡ ys)
+cell-differs k = differ-by (λ (l : List ℕ). getD l k 0)
 
-pub enter-bars : EnterBars 48
-unfolding machine
-enter-bars = λ e. eqb-false 32 84 refl (ap (λ (l : List ℕ). getD l 0 0) e)
+clash : {rows : ℕ} {A : Type 0} {part : World → A} → Sound rows (form rows) → form rows .state .format ≡ true → (k : Key) → eqb (k .code) 273 ≡ false → Reach k (form rows) (tag .field)
+    → Differ rows (form rows) part (keysFirst (k ∷ []) (tag ∷ [])) (postsFirst (k ∷ []) (tag ∷ [])) → Clash rows k part
+clash s on k n r d = record { mixes = both-ways s on (k ∷ []) (tag ∷ []); not-enter = eqb-false (k .code) 273 n; reaches = r; differ = d }
 
-pub posts-keep-order : PostsKeepOrder 48
-unfolding machine
-posts-keep-order =
+keep-order : {rows : ℕ} → Differ {A = List ℕ} rows (form rows) (λ w. w .chars) (posting p0 ∷ posting p2 ∷ []) (posting p2 ∷ posting p0 ∷ []) → PostsKeepOrder rows
+keep-order d =
     record {
       mix = a-post here (a-post here done);
       no-mix = λ m. eqb-false 52 49 refl (ap (λ (l : List (List ℕ)). getD (getD l 0 []) 0 0) (mixed-posts 1 m));
-      differ = λ e. eqb-false 52 49 refl (ap (λ (l : List ℕ). getD l 80 0) e);
+      differ = d;
     }
 
-pub order-shows : OrderShows 48
+-- ---- on 96 rows
+starts-96 : Sound 96 (form 96)
+starts-96 = form-sound (omega arith) (omega arith)
+
+pub form-covered-96 : FormCovered 96
+unfolding machine every spares keepApart tally
+form-covered-96 = cover (between-ways starts-96 refl) refl refl refl
+
+pub locked-covered-96 : LockedCovered 96
+unfolding machine every spares keepApart tally
+locked-covered-96 = cover (both-ways (locked-sound (omega arith) (omega arith)) refl _ _) refl refl refl
+
+pub pending-covered-96 : PendingCovered 96
+unfolding machine every spares keepApart tally
+pending-covered-96 = cover (both-ways (awaited-sound (omega arith) (omega arith)) refl _ _) refl refl refl
+
+pub bare-covered-96 : BareCovered 96
+unfolding machine every spares keepApart tally
+bare-covered-96 = cover (both-ways (bare-sound (omega arith) (omega arith)) refl _ _) refl refl refl
+
+pub reach-needed-96 : ReachNeeded 96
 unfolding machine
-order-shows = λ e. eqb-false 49 50 refl (ap (λ (l : List ℕ). getD l 1 0) e)
+reach-needed-96 =
+    record {
+      home-down = clash starts-96 refl (struck 261) refl (0, refl) (differ-by (λ (c : Cursor). c .row) refl);
+      text = clash starts-96 refl (struck 65) refl (0, refl, refl) (cell-differs 0 refl);
+      clear-display = clash starts-96 refl (struck 264) refl (0, omega arith, refl) (cell-differs 0 refl);
+      clear-line = clash starts-96 refl (struck 265) refl refl (cell-differs 0 refl);
+      delete = clash starts-96 refl (struck 267) refl refl (cell-differs 0 refl);
+    }
+
+pub enter-bars-96 : EnterBars 96
+unfolding machine
+enter-bars-96 = cell-differs 0 refl
+
+pub posts-keep-order-96 : PostsKeepOrder 96
+unfolding machine
+posts-keep-order-96 = keep-order (cell-differs 80 refl)
+
+pub order-shows-96 : OrderShows 96
+unfolding machine
+order-shows-96 = cell-differs 1 refl
+
+-- ---- on 48 rows
+starts-48 : Sound 48 (form 48)
+starts-48 = form-sound (omega arith) (omega arith)
+
+pub form-covered-48 : FormCovered 48
+unfolding machine every spares keepApart tally
+form-covered-48 = cover (between-ways starts-48 refl) refl refl refl
+
+pub locked-covered-48 : LockedCovered 48
+unfolding machine every spares keepApart tally
+locked-covered-48 = cover (both-ways (locked-sound (omega arith) (omega arith)) refl _ _) refl refl refl
+
+pub pending-covered-48 : PendingCovered 48
+unfolding machine every spares keepApart tally
+pending-covered-48 = cover (both-ways (awaited-sound (omega arith) (omega arith)) refl _ _) refl refl refl
+
+pub bare-covered-48 : BareCovered 48
+unfolding machine every spares keepApart tally
+bare-covered-48 = cover (both-ways (bare-sound (omega arith) (omega arith)) refl _ _) refl refl refl
+
+pub reach-needed-48 : ReachNeeded 48
+unfolding machine
+reach-needed-48 =
+    record {
+      home-down = clash starts-48 refl (struck 261) refl (0, refl) (differ-by (λ (c : Cursor). c .row) refl);
+      text = clash starts-48 refl (struck 65) refl (0, refl, refl) (cell-differs 0 refl);
+      clear-display = clash starts-48 refl (struck 264) refl (0, omega arith, refl) (cell-differs 0 refl);
+      clear-line = clash starts-48 refl (struck 265) refl refl (cell-differs 0 refl);
+      delete = clash starts-48 refl (struck 267) refl refl (cell-differs 0 refl);
+    }
+
+pub enter-bars-48 : EnterBars 48
+unfolding machine
+enter-bars-48 = cell-differs 0 refl
+
+pub posts-keep-order-48 : PostsKeepOrder 48
+unfolding machine
+posts-keep-order-48 = keep-order (cell-differs 80 refl)
+
+pub order-shows-48 : OrderShows 48
+unfolding machine
+order-shows-48 = cell-differs 1 refl

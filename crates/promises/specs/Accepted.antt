@@ -1,5 +1,5 @@
--- The promise of posts: what an accepted post writes, cell by cell, and that nothing else changes. Refused posts leave all (`Refusals`). The terminal has 48 rows;
--- this holds of up to 96. Assumes nothing.
+-- The promise of posts: what an accepted post writes, cell by cell, and that nothing else changes. Refused posts leave all (`Refusals`). This
+-- holds of up to 96 rows. Assumes nothing.
 use Prim.Native.Nat.{ℕ, _+_, _≤_, _<_}
 use mathlib.Core.Path.{_≡_}
 use mathlib.Core.Bool.{true, false}

@@ -4,6 +4,7 @@ use Rattle.cases.specs.Cases.{CasesHold}
 use Rattle.mixing.specs.Mix.{MixedExactly}
 use Rattle.promises.specs.Refusals.{FreshRefusals, KeyRefusals, PostRefusals, HostRefusals, FreshGood, GoodStays}
 use Rattle.promises.specs.Once.{FreshOnce, KeyOnce, PostOnce, HostOnce}
+use Rattle.promises.specs.Rooms.{KeyRooms, HostRooms, PartRooms}
 use Rattle.promises.specs.Numbers.{FreshNumbers, KeyNumbers, PostNumbers, HostNumbers}
 use Rattle.promises.specs.Accepted.{PostWrites}
 use Rattle.promises.specs.Protected.{ProtectedStay}
@@ -37,13 +38,17 @@ pub record Promises (rows : ℕ) : Type 1 where
   pub post-writes : PostWrites rows
   -- while format mode stays on, no protected cell changes its character; it keeps its attribute byte too, and every cell its mark
   pub protected-stay : ProtectedStay rows
-  -- document 01's own cases, with weights and clears
+  -- of a lent reply buffer only the room counts
+  pub key-rooms : KeyRooms rows
+  pub host-rooms : HostRooms rows
+  -- document 01's own cases, with weights, clears and last places
   pub cases-hold : CasesHold rows
   -- session records and sessions of any bytes
   pub part-numbers : PartNumbers rows
   pub record-numbers : RecordNumbers rows
   pub record-refusals : RecordRefusals rows
   pub host-records : HostRecords rows
+  pub part-rooms : PartRooms rows
   pub session-lines : SessionLines rows
   pub session-numbered : SessionNumbered rows
   pub session-good : SessionGood rows

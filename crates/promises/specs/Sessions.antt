@@ -1,4 +1,4 @@
--- The promises of session records and of whole sessions (document 01, 'Session program'), whatever bytes come in. The terminal has 48 rows; this holds of 24 to 96.
+-- The promises of session records and of whole sessions (document 01, 'Session program'), whatever bytes come in. This holds of 24 to 96 rows.
 -- Assumes nothing.
 use Prim.Native.Nat.{ℕ, _+_, _*_, _≤_, _<_, min}
 use mathlib.Core.Path.{_≡_}

@@ -11,7 +11,7 @@ use Rattle.key.proofs.Kept.{key-sound, key-good}
 use Rattle.post.proofs.Kept.{post-sound, post-good}
 use Rattle.host.proofs.Kept.{fed-sound, fed-good}
 use Rattle.records.specs.Records.{kindOf, numberOf, dataOf, formRefusal, Part, hostPart, keyPart, postPart, recordPart, Ran, ran, emptied, ranFrom, recordRan}
-use Rattle.records.proofs.Whole.{whole-last}
+use Rattle.records.proofs.Whole.{emptied-long, whole-last}
 
 -- ---- one call, then the calls of a record
 pub part-sound : {rows : ℕ} {w : World} → Sound rows w → (r : List ℕ) (at : ℕ) (reply : List ℕ) → Sound rows (recordPart rows w r at reply .world)
@@ -64,4 +64,4 @@ pub whole-once : (rows : ℕ) (w : World) (r : List ℕ) {p : Part} → p ≡ re
 unfolding recordRan
 whole-once rows w r {p} e n =
     let z : p .written ≡ 0 + p .written = omega arith in
-    ap (λ (k : ℕ). ran (p .number) k (p .world)) z ∙ whole-last rows w r 0 0 e 81 (omega arith) n
+    ap (λ (k : ℕ). ran (p .number) k (p .world)) z ∙ whole-last rows w r 0 0 (emptied rows) (emptied-long rows) e 81 (omega arith) n

@@ -2,7 +2,7 @@
 use Prim.Native.Nat.{ℕ, zero, suc, _+_, _*_}
 use mathlib.Core.Bool.{Bool, true, cond, _&&_, not}
 use mathlib.Core.List.{List, [], _∷_}
-use lib.ListN.{length, getD, drop, replicate}
+use lib.ListN.{length, getD, take, drop, replicate}
 use lib.Seq.{slice}
 use lib.Dec.{leb, ltb, eqb}
 use Rattle.terminal.specs.State.{World, world}
@@ -59,6 +59,10 @@ part number at written w reply = record { number = number; at = at; written = wr
 abbrev pub partLeft : PartAnswer → List ℕ → List ℕ → List ℕ → Part
 partLeft r chars attrs reply = part (r .number) (r .at) (r .written) (world (r .state) chars attrs) reply
 
+-- the same with those bytes of the reply buffer alone that the call wrote
+abbrev pub delivered : Part → Part
+delivered p = part (p .number) (p .at) (p .written) (p .world) (take (p .written) (p .reply))
+
 -- H: the data bytes from byte `at` on, as far as the reply buffer goes
 unfoldable pub hostPart : ℕ → World → List ℕ → ℕ → List ℕ → Part
 hostPart rows w bytes at reply =
@@ -98,7 +102,7 @@ ran answer replied w = record { answer = answer; replied = replied; world = w }
 abbrev pub ranLeft : RanAnswer → List ℕ → List ℕ → Ran
 ranLeft r chars attrs = ran (r .answer) (r .replied) (world (r .state) chars attrs)
 
--- an emptied reply buffer: 7,680 bytes for 48 rows
+-- an emptied reply buffer, which holds the longest reply: two bytes a cell
 abbrev pub emptied : ℕ → List ℕ
 emptied rows = replicate (rows * 160) 0
 

@@ -1,4 +1,4 @@
-// Session records: a record of 84 bytes is read and run on a terminal.
+// Session records: a record of 84 bytes is read and run on a terminal. `rows` is the number of rows of its memory, 24 to 96.
 ghost use mathlib.Core.Path.{_≡_};
 ghost use Prim.Native.Nat.{_+_, _*_, _≤_, _<_};
 ghost use lib.ListN.{length, drop};
@@ -80,16 +80,18 @@ fn refuse_form(bytes: &[u8]) -> u8
 // Host bytes from byte `at` on, as far as the reply buffer goes.
 fn run_host(
     t: Terminal,
+    rows: usize,
     chars: &mut [u8],
     attrs: &mut [u8],
     bytes: &[u8],
     at: usize,
     reply: &mut [u8],
 ) -> PartAnswer
-    ensures { λ r. ⌜ partLeft r (now (chars .exit)) (now (attrs .exit)) (now (reply .exit)) ≡ hostPart 48 (world t (now (chars .entry)) (now (attrs .entry))) (now (bytes .entry)) at (now (reply .entry)) ⌝ }
+    requires { ⌜ (24 ≤ rows) × (rows ≤ 96) ⌝ }
+    ensures { λ r. ⌜ partLeft r (now (chars .exit)) (now (attrs .exit)) (now (reply .exit)) ≡ hostPart rows (world t (now (chars .entry)) (now (attrs .entry))) (now (bytes .entry)) at (now (reply .entry)) ⌝ }
 {
     let from = cells::least(at, bytes.len());
-    let a = host::host(t, chars, attrs, &bytes[from..], reply);
+    let a = host::host_on(t, rows, chars, attrs, &bytes[from..], reply);
     let state = a.state;
     PartAnswer {
         number: a.number,
@@ -101,15 +103,17 @@ fn run_host(
 
 fn run_key(
     t: Terminal,
+    rows: usize,
     chars: &mut [u8],
     attrs: &mut [u8],
     code: u16,
     at: usize,
     reply: &mut [u8],
 ) -> PartAnswer
-    ensures { λ r. ⌜ partLeft r (now (chars .exit)) (now (attrs .exit)) (now (reply .exit)) ≡ keyPart 48 (world t (now (chars .entry)) (now (attrs .entry))) code at (now (reply .entry)) ⌝ }
+    requires { ⌜ (24 ≤ rows) × (rows ≤ 96) ⌝ }
+    ensures { λ r. ⌜ partLeft r (now (chars .exit)) (now (attrs .exit)) (now (reply .exit)) ≡ keyPart rows (world t (now (chars .entry)) (now (attrs .entry))) code at (now (reply .entry)) ⌝ }
 {
-    let a = key::key(t, chars, attrs, code, reply);
+    let a = key::key_on(t, rows, chars, attrs, code, reply);
     let state = a.state;
     PartAnswer {
         number: a.number,
@@ -121,6 +125,7 @@ fn run_key(
 
 fn run_post(
     t: Terminal,
+    rows: usize,
     chars: &mut [u8],
     attrs: &[u8],
     field: usize,
@@ -128,9 +133,10 @@ fn run_post(
     at: usize,
     reply: &[u8],
 ) -> PartAnswer
-    ensures { λ r. ⌜ partLeft r (now (chars .exit)) (now (attrs .entry)) (now (reply .entry)) ≡ postPart 48 (world t (now (chars .entry)) (now (attrs .entry))) field (now (text .entry)) at (now (reply .entry)) ⌝ }
+    requires { ⌜ (24 ≤ rows) × (rows ≤ 96) ⌝ }
+    ensures { λ r. ⌜ partLeft r (now (chars .exit)) (now (attrs .entry)) (now (reply .entry)) ≡ postPart rows (world t (now (chars .entry)) (now (attrs .entry))) field (now (text .entry)) at (now (reply .entry)) ⌝ }
 {
-    let a = post::post(t, chars, attrs, field, text);
+    let a = post::post_on(t, rows, chars, attrs, field, text);
     let state = a.state;
     PartAnswer {
         number: a.number,
@@ -140,17 +146,19 @@ fn run_post(
     }
 }
 
-// One session record from its data byte `at` on, its reply bytes to the start of `reply`. 7 from an H record: the reply buffer is full, so call again with an
-// emptied one and the `at` that came back. Any other number ends the record: K and P records run once, a record of another form does nothing.
-pub fn run_from(
+// One session record from its data byte `at` on, its reply bytes to the start of `reply`. 7 from an H record: the reply buffer is full, so call again with the `at`
+// that came back and the whole buffer. Any other number ends the record: K and P records run once, a record of another form does nothing.
+pub fn run_from_on(
     t: Terminal,
+    rows: usize,
     chars: &mut [u8],
     attrs: &mut [u8],
     bytes: &[u8],
     at: usize,
     reply: &mut [u8],
 ) -> PartAnswer
-    ensures { λ r. ⌜ partLeft r (now (chars .exit)) (now (attrs .exit)) (now (reply .exit)) ≡ recordPart 48 (world t (now (chars .entry)) (now (attrs .entry))) (now (bytes .entry)) at (now (reply .entry)) ⌝ }
+    requires { ⌜ (24 ≤ rows) × (rows ≤ 96) ⌝ }
+    ensures { λ r. ⌜ partLeft r (now (chars .exit)) (now (attrs .exit)) (now (reply .exit)) ≡ recordPart rows (world t (now (chars .entry)) (now (attrs .entry))) (now (bytes .entry)) at (now (reply .entry)) ⌝ }
 {
     let n = refuse_form(bytes);
     if n != 0 {
@@ -165,25 +173,60 @@ pub fn run_from(
     let number = number_of(bytes);
     let end = 4 + bytes[1] as usize;
     if kind == 72 {
-        return run_host(t, chars, attrs, &bytes[4..end], at, reply);
+        return run_host(t, rows, chars, attrs, &bytes[4..end], at, reply);
     }
     if kind == 75 {
-        return run_key(t, chars, attrs, (number % 65536) as u16, at, reply);
+        return run_key(t, rows, chars, attrs, (number % 65536) as u16, at, reply);
     }
-    run_post(t, chars, attrs, number, &bytes[4..end], at, reply)
+    run_post(t, rows, chars, attrs, number, &bytes[4..end], at, reply)
 }
 
-// One whole session record: its answer, and its reply bytes added up over emptied reply buffers.
-pub fn run(t: Terminal, chars: &mut [u8], attrs: &mut [u8], bytes: &[u8]) -> RanAnswer
-    ensures { λ r. ⌜ ranLeft r (now (chars .exit)) (now (attrs .exit)) ≡ recordRan 48 (world t (now (chars .entry)) (now (attrs .entry))) (now (bytes .entry)) ⌝ }
+// `run_from_on` in a memory of 96 rows. Takes any state and any buffers.
+pub fn run_from(
+    t: Terminal,
+    chars: &mut [u8],
+    attrs: &mut [u8],
+    bytes: &[u8],
+    at: usize,
+    reply: &mut [u8],
+) -> PartAnswer
+    ensures { λ r. ⌜ partLeft r (now (chars .exit)) (now (attrs .exit)) (now (reply .exit)) ≡ recordPart 96 (world t (now (chars .entry)) (now (attrs .entry))) (now (bytes .entry)) at (now (reply .entry)) ⌝ }
+{
+    run_from_on(t, 96, chars, attrs, bytes, at, reply)
+}
+
+// `run_from` in a memory of 48 rows.
+pub fn run_from_48(
+    t: Terminal,
+    chars: &mut [u8],
+    attrs: &mut [u8],
+    bytes: &[u8],
+    at: usize,
+    reply: &mut [u8],
+) -> PartAnswer
+    ensures { λ r. ⌜ partLeft r (now (chars .exit)) (now (attrs .exit)) (now (reply .exit)) ≡ recordPart 48 (world t (now (chars .entry)) (now (attrs .entry))) (now (bytes .entry)) at (now (reply .entry)) ⌝ }
+{
+    run_from_on(t, 48, chars, attrs, bytes, at, reply)
+}
+
+// One whole session record: its answer, and its reply bytes added up. `reply` is lent with room for the longest reply; what it holds does not matter.
+pub fn run_on(
+    t: Terminal,
+    rows: usize,
+    chars: &mut [u8],
+    attrs: &mut [u8],
+    bytes: &[u8],
+    reply: &mut [u8],
+) -> RanAnswer
+    requires { ⌜ (24 ≤ rows) × (rows ≤ 96) × (length (now reply) ≡ rows * 160) ⌝ }
+    ensures { λ r. ⌜ ranLeft r (now (chars .exit)) (now (attrs .exit)) ≡ recordRan rows (world t (now (chars .entry)) (now (attrs .entry))) (now (bytes .entry)) ⌝ }
 {
     let mut u = t;
     let mut at = 0;
     let mut sum = 0;
     let mut calls: usize = 81;
     while 0 < calls {
-        let mut reply = [0u8; 7680];
-        let a = run_from(u, chars, attrs, bytes, at, &mut reply);
+        let a = run_from_on(u, rows, chars, attrs, bytes, at, reply);
         let state = a.state;
         u = state;
         at = a.at;
@@ -202,4 +245,20 @@ pub fn run(t: Terminal, chars: &mut [u8], attrs: &mut [u8], bytes: &[u8]) -> Ran
         replied: sum,
         state: u,
     }
+}
+
+// `run_on` in a memory of 96 rows, with a reply buffer of its own. Takes any state and any buffers.
+pub fn run(t: Terminal, chars: &mut [u8], attrs: &mut [u8], bytes: &[u8]) -> RanAnswer
+    ensures { λ r. ⌜ ranLeft r (now (chars .exit)) (now (attrs .exit)) ≡ recordRan 96 (world t (now (chars .entry)) (now (attrs .entry))) (now (bytes .entry)) ⌝ }
+{
+    let mut reply = [0u8; 15360];
+    run_on(t, 96, chars, attrs, bytes, &mut reply)
+}
+
+// `run` in a memory of 48 rows.
+pub fn run_48(t: Terminal, chars: &mut [u8], attrs: &mut [u8], bytes: &[u8]) -> RanAnswer
+    ensures { λ r. ⌜ ranLeft r (now (chars .exit)) (now (attrs .exit)) ≡ recordRan 48 (world t (now (chars .entry)) (now (attrs .entry))) (now (bytes .entry)) ⌝ }
+{
+    let mut reply = [0u8; 7680];
+    run_on(t, 48, chars, attrs, bytes, &mut reply)
 }

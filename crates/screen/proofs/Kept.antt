@@ -29,6 +29,11 @@ pub choose-by : {A : Type 0} (P : A → Type 0) (t : Bool) {x y : A} → (t ≡ 
 choose-by P true p q = p refl
 choose-by P false p q = q refl
 
+-- what two choices by one test share
+pub choose-both : {A : Type 0} (R : A → A → Type 0) (t : Bool) {x y x′ y′ : A} → (t ≡ true → R x x′) → (t ≡ false → R y y′) → R (cond t x y) (cond t x′ y′)
+choose-both R true p q = p refl
+choose-both R false p q = q refl
+
 -- ---- lengths
 pub length-put : (insert : Bool) (xs : List ℕ) (k e v : ℕ) → length (put insert xs k e v) ≡ length xs
 unfolding put

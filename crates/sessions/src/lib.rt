@@ -1,7 +1,7 @@
-// Sessions: records of 84 bytes, run one after the other, and the lines that they print.
+// Sessions: records of 84 bytes, run one after the other, and the lines that they print. `rows` is the number of rows of the terminal's memory, 24 to 96.
 ghost use mathlib.Core.Path.{_≡_};
 ghost use mathlib.Core.List.{[], _∷_, _++_};
-ghost use Prim.Native.Nat.{_+_, _≤_};
+ghost use Prim.Native.Nat.{_+_, _*_, _≤_};
 ghost use lib.ListN.{length};
 ghost use Rattle.cells.specs.Memory.{written};
 ghost use Rattle.terminal.specs.State.{world};
@@ -56,19 +56,19 @@ pub fn next(number: u64) -> u64
     }
 }
 
-// The records of `bytes`, the first of them with this number, run one after the other; each one's line (record number, answer, reply bytes) goes to the start
-// of `lines`, behind the one before it. A rest under 84 bytes is a record too, the short one: hand in parts of a session that end between records. It stops
-// where all is taken, or where fewer than 63 bytes are left for a line: then empty `lines`, and call again with `&bytes[taken..]` and the number and the state
-// that came back.
-pub fn run_records(
+// The records one after the other, with the reply buffer lent: it has room for the longest reply, and what it holds does not matter.
+fn run_each(
     t: Terminal,
+    rows: usize,
     chars: &mut [u8],
     attrs: &mut [u8],
     number: u64,
     bytes: &[u8],
     lines: &mut [u8],
+    reply: &mut [u8],
 ) -> LinesAnswer
-    ensures { λ r. ⌜ linesLeft r (now (chars .exit)) (now (attrs .exit)) (now (lines .exit)) ≡ recordsRun 48 (world t (now (chars .entry)) (now (attrs .entry))) number (now (bytes .entry)) (now (lines .entry)) ⌝ }
+    requires { ⌜ (24 ≤ rows) × (rows ≤ 96) × (length (now reply) ≡ rows * 160) ⌝ }
+    ensures { λ r. ⌜ linesLeft r (now (chars .exit)) (now (attrs .exit)) (now (lines .exit)) ≡ recordsRun rows (world t (now (chars .entry)) (now (attrs .entry))) number (now (bytes .entry)) (now (lines .entry)) ⌝ }
 {
     let mut u = t;
     let mut n = number;
@@ -84,7 +84,7 @@ pub fn run_records(
             };
         }
         let end = at + cells::least(84, bytes.len() - at);
-        let a = records::run(u, chars, attrs, &bytes[at..end]);
+        let a = records::run_on(u, rows, chars, attrs, &bytes[at..end], reply);
         to = write_three(lines, to, n, a.answer as u64, a.replied as u64);
         let state = a.state;
         u = state;
@@ -97,6 +97,63 @@ pub fn run_records(
         number: n,
         state: u,
     }
+}
+
+// The records of `bytes`, the first of them with this number, run one after the other; each one's line (record number, answer, reply bytes) goes to the start
+// of `lines`, behind the one before it. A rest under 84 bytes is a record too, the short one: hand in parts of a session that end between records. It stops
+// where all is taken, or where fewer than 63 bytes are left for a line: then empty `lines`, and call again with `&bytes[taken..]` and the number and the state
+// that came back.
+pub fn run_records_on(
+    t: Terminal,
+    rows: usize,
+    chars: &mut [u8],
+    attrs: &mut [u8],
+    number: u64,
+    bytes: &[u8],
+    lines: &mut [u8],
+) -> LinesAnswer
+    requires { ⌜ (24 ≤ rows) × (rows ≤ 96) ⌝ }
+    ensures { λ r. ⌜ linesLeft r (now (chars .exit)) (now (attrs .exit)) (now (lines .exit)) ≡ recordsRun rows (world t (now (chars .entry)) (now (attrs .entry))) number (now (bytes .entry)) (now (lines .entry)) ⌝ }
+{
+    let mut reply = [0u8; 15360];
+    run_each(
+        t,
+        rows,
+        chars,
+        attrs,
+        number,
+        bytes,
+        lines,
+        &mut reply[..rows * 160],
+    )
+}
+
+// `run_records_on` in a memory of 96 rows. Takes any state and any buffers.
+pub fn run_records(
+    t: Terminal,
+    chars: &mut [u8],
+    attrs: &mut [u8],
+    number: u64,
+    bytes: &[u8],
+    lines: &mut [u8],
+) -> LinesAnswer
+    ensures { λ r. ⌜ linesLeft r (now (chars .exit)) (now (attrs .exit)) (now (lines .exit)) ≡ recordsRun 96 (world t (now (chars .entry)) (now (attrs .entry))) number (now (bytes .entry)) (now (lines .entry)) ⌝ }
+{
+    run_records_on(t, 96, chars, attrs, number, bytes, lines)
+}
+
+// `run_records` in a memory of 48 rows.
+pub fn run_records_48(
+    t: Terminal,
+    chars: &mut [u8],
+    attrs: &mut [u8],
+    number: u64,
+    bytes: &[u8],
+    lines: &mut [u8],
+) -> LinesAnswer
+    ensures { λ r. ⌜ linesLeft r (now (chars .exit)) (now (attrs .exit)) (now (lines .exit)) ≡ recordsRun 48 (world t (now (chars .entry)) (now (attrs .entry))) number (now (bytes .entry)) (now (lines .entry)) ⌝ }
+{
+    run_records_on(t, 48, chars, attrs, number, bytes, lines)
 }
 
 // The end line, the word `end` and the cursor's row, column and the window's top, to the start of `line`; how many bytes it has. Nothing is written, and 0 is

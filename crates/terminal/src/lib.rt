@@ -458,14 +458,14 @@ impl Terminal {
     }
 }
 
-// The answer of `fresh`: 0 done, 1 a memory buffer is not 3,840 bytes; and a fresh state.
+// The answer of `fresh`: 0 done, 1 a memory buffer has another size; and a fresh state.
 pub struct FreshAnswer {
     pub number: u8,
     pub state: Terminal,
 }
 
 // A fresh state, and a fresh memory in the lent buffers; `rows` rows.
-fn fresh_on(rows: usize, chars: &mut [u8], attrs: &mut [u8]) -> FreshAnswer
+pub fn fresh_on(rows: usize, chars: &mut [u8], attrs: &mut [u8]) -> FreshAnswer
     requires { ⌜ rows ≤ 96 ⌝ }
     ensures { λ r. ⌜ freshLeft r (now (chars .exit)) (now (attrs .exit)) ≡ freshened rows (now (chars .entry)) (now (attrs .entry)) ⌝ }
 {
@@ -481,8 +481,15 @@ fn fresh_on(rows: usize, chars: &mut [u8], attrs: &mut [u8]) -> FreshAnswer
     }
 }
 
-// A fresh state, and a fresh memory in the lent buffers. Refuses buffers of another size with 1, and leaves them.
+// A fresh state, and a fresh memory of 96 rows in the lent buffers. Refuses buffers of another size with 1, and leaves them.
 pub fn fresh(chars: &mut [u8], attrs: &mut [u8]) -> FreshAnswer
+    ensures { λ r. ⌜ freshLeft r (now (chars .exit)) (now (attrs .exit)) ≡ freshened 96 (now (chars .entry)) (now (attrs .entry)) ⌝ }
+{
+    fresh_on(96, chars, attrs)
+}
+
+// `fresh` for a memory of 48 rows.
+pub fn fresh_48(chars: &mut [u8], attrs: &mut [u8]) -> FreshAnswer
     ensures { λ r. ⌜ freshLeft r (now (chars .exit)) (now (attrs .exit)) ≡ freshened 48 (now (chars .entry)) (now (attrs .entry)) ⌝ }
 {
     fresh_on(48, chars, attrs)

@@ -6,10 +6,10 @@ use Rattle.bench.proofs.press_in_turn.Statement.{statement}
 use Rattle.bench.proofs.press_in_turn.Tie as tie
 
 abbrev Inv-loop : tie.InvT-loop
-Inv-loop chars₀ attrs₀ reply₀ code other times state₀ number₀ turn₀ left₀ chars attrs reply state number turn left = (length chars ≡ length chars₀) × (length attrs ≡ length attrs₀) × (length reply ≡ length reply₀)
+Inv-loop rows chars₀ attrs₀ reply₀ code other times state₀ number₀ turn₀ left₀ chars attrs reply state number turn left = (length chars ≡ length chars₀) × (length attrs ≡ length attrs₀) × (length reply ≡ length reply₀)
 
 abbrev μ-loop : tie.MeasureT-loop
-μ-loop chars₀ attrs₀ reply₀ code other times state₀ number₀ turn₀ left₀ chars attrs reply state number turn left = left
+μ-loop rows chars₀ attrs₀ reply₀ code other times state₀ number₀ turn₀ left₀ chars attrs reply state number turn left = left
 
 pub press-in-turn-spec : {M : Type 1} → statement M
 press-in-turn-spec =

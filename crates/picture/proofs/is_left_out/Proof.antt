@@ -16,6 +16,8 @@ is-left-out-spec =
     (tie.spec Inv-loop μ-loop
     (λ c. search needs)
     (λ c. search needs)
+    (λ c. search needs)
+    (λ c. search needs)
     (λ c κs. search needs)
     (λ c. search needs)
     (λ c. search needs)

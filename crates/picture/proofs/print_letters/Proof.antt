@@ -15,6 +15,8 @@ print-letters-spec =
     tie.close
     (tie.spec Inv-loop μ-loop
     (λ c. search needs)
+    (λ c. search needs)
+    (λ c. search needs)
     (λ c κs. search needs)
     (λ c. search needs)
     (λ c. search needs)

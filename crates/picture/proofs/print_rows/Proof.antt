@@ -7,10 +7,10 @@ use Rattle.picture.proofs.print_rows.Statement.{statement}
 use Rattle.picture.proofs.print_rows.Tie as tie
 
 abbrev Inv-loop : tie.InvT-loop
-Inv-loop page₀ cursor chars attrs o₀ left-out₀ row₀ page o left-out row = (row ≤ 48) × (left-out ≤ row)
+Inv-loop page₀ cursor rows chars attrs o₀ left-out₀ row₀ page o left-out row = (row ≤ rows) × (left-out ≤ row)
 
 abbrev μ-loop : tie.MeasureT-loop
-μ-loop page₀ cursor chars attrs o₀ left-out₀ row₀ page o left-out row = 48 - row
+μ-loop page₀ cursor rows chars attrs o₀ left-out₀ row₀ page o left-out row = rows - row
 
 pub print-rows-spec : {M : Type 1} → statement M
 print-rows-spec =

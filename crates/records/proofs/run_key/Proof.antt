@@ -15,4 +15,4 @@ run-key-spec =
     (λ c. search needs)
     (λ c. search needs)
     (λ c. search needs)
-    (λ c. let k = c .before .before .before .before .before .before .before in ap (λ (h : Keyed). part (h .number) (k .before .before .before .before .before .before .before .args .at) (h .written) (h .world) (h .reply)) (k .key .ensures)))
+    (λ c. let k = c .before .before .before .before .before .before .before in ap (λ (h : Keyed). part (h .number) (k .before .before .before .before .before .before .before .args .at) (h .written) (h .world) (h .reply)) (k .key-on .ensures)))

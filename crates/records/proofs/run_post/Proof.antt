@@ -13,4 +13,4 @@ run-post-spec =
     (tie.spec
     (λ c κs. search needs)
     (λ c. search needs)
-    (λ c. let a = c .before .before .before .before .before .before .before .before .before .args in ap (λ (p : Posted). part (p .number) (a .at) 0 (p .world) (a .reply .now)) (c .before .before .before .post .ensures)))
+    (λ c. let a = c .before .before .before .before .before .before .before .before .before .args in ap (λ (p : Posted). part (p .number) (a .at) 0 (p .world) (a .reply .now)) (c .before .before .before .post-on .ensures)))
