@@ -9,7 +9,7 @@ use lib.ListN.{getD}
 use lib.Dec.{eqb}
 use borrow.Author.Tests.{eqb-false}
 use Rattle.cursor.specs.declared.Cursor.{Cursor}
-use Rattle.terminal.specs.State.{World, freshWorld, Sound}
+use Rattle.terminal.specs.State.{World, Sound}
 use Rattle.terminal.proofs.Good.{fresh-sound}
 use Rattle.key.specs.Keys.{keyed}
 use Rattle.post.specs.Posts.{postedTo}

@@ -6,7 +6,7 @@ use native.Mathlib.Omega.{arith}
 use lib.ListN.{length, length-replicate}
 use borrow.Author.Tests.{eq-eqb, ne-eqb}
 use Rattle.terminal.specs.State.{World}
-use Rattle.records.specs.Records.{Part, delivered, recordPart, Ran, ran, emptied, ranFrom, recordRan}
+use Rattle.records.specs.Records.{Part, delivered, recordPart, ran, emptied, ranFrom, recordRan}
 use Rattle.records.proofs.Running.{part-written}
 use Rattle.records.proofs.Rooms.{part-room}
 
