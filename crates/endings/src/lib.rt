@@ -1,4 +1,6 @@
 // What stands behind the last record of a file: the terminal, or why the file could not be read.
+ghost use mathlib.Core.Path.{_≡_};
+ghost use mathlib.Core.Bool.{cond};
 ghost use Prim.Native.Nat.{_≤_};
 use libc::STDERR_FILENO;
 use printing::Output;
@@ -17,6 +19,7 @@ pub struct Way {
 impl Way {
     // The number of rows of the terminal's memory.
     pub fn rows(self) -> usize
+        ensures { λ r. ⌜ r ≡ cond (self .is_48) 48 96 ⌝ }
         ensures { λ r. ⌜ (24 ≤ r) × (r ≤ 96) ⌝ }
     {
         if self.is_48 { 48 } else { 96 }
