@@ -1,4 +1,4 @@
--- The mixing theorem for a machine of cells: `CellLaws` gives `Laws`. Assumes nothing.
+-- The mixing theorem for a machine of cells: `CellLaws` gives `Laws`, and `CellSums` gives `Sums`. Assumes nothing.
 use mathlib.Core.Path.{_≡_, refl, sym, ap, _∙_, subst}
 use mathlib.Core.Bool.{Bool, true, false, _&&_, not, false≢true}
 use mathlib.Core.List.{List}
@@ -8,9 +8,9 @@ use lib.Dec.{eqb, ltb}
 use borrow.Author.Tests.{eqb-true, eq-eqb, ltb-true, lt-ltb, not-true}
 use Rattle.mixing.specs.Event.{Event, key, post}
 use Rattle.mixing.specs.Mix.{Post, Mixed, Apart, Agree}
-use Rattle.mixing.proofs.Cellwise.{Cellwise, frameOf, SameCells, Lives, KeyLaw, PostLaw, CellLaws}
-use Rattle.mixing.proofs.Machine.{Machine, Local, Quiet, Laws}
-use Rattle.mixing.proofs.Mixing.{mixes-agree}
+use Rattle.mixing.proofs.Cellwise.{Cellwise, frameOf, SameCells, Lives, KeyLaw, PostLaw, CellLaws, CellSums}
+use Rattle.mixing.proofs.Machine.{Machine, Local, Quiet, Laws, Tally, Sums}
+use Rattle.mixing.proofs.Summing.{mixes-agree}
 use Rattle.mixing.proofs.View.{view, view-same, view-at}
 
 -- the two parts of a conjunction
@@ -171,7 +171,7 @@ module _ {K T : Type 0} (M : Cellwise K T) where
             let ke = sym
             (same-kept x (M .step (post g t) x) (sym (framed x v)) (λ i l o. sym (c .stays x i l v (λ a. absurd (false≢true (sym o ∙ a)))))) in
             λ i. record { state = st i; kept = ke i };
-        answer = c .answer;
+        answer = λ x y v w e h. c .answer x y v w e;
         own = λ x y v w e h.
             same-text (M .step (post g t) x) (M .step (post g t) y) g (framed x v ∙ e ∙ sym (framed y w))
             (λ i l o n.
@@ -185,15 +185,21 @@ module _ {K T : Type 0} (M : Cellwise K T) where
       framed : (x : M .X) → Lives M x → frameOf M (M .step (post g t) x) ≡ frameOf M x
       framed x v = ap (M .frame) (c .still x v)
 
-  pub cell-laws : (Ok : K → Type 0) → CellLaws M Ok → Laws machine Ok
-  cell-laws Ok c =
+  cell-laws : (Ok : K → Type 0) → CellLaws M Ok → Laws machine Ok
+  cell-laws Ok c = record { keys = λ k o. local k (c .keys k o); posts = λ g t. quiet g t (c .posts g t) }
+
+  cell-sums : (Y : Tally (Event K T) (M .X)) (Ok : K → Type 0) → CellSums M Y Ok → Sums machine Y Ok
+  cell-sums Y Ok c =
       record {
-        keys = λ k o. local k (c .keys k o);
-        posts = λ g t. quiet g t (c .posts g t);
+        swap = c .swap;
+        summed = c .summed;
+        keys = λ k o x y v s r. c .keys k o x y v (also-lives x y s v) (same-state x y s) (same-cells x y (M .Reach k (M .state x)) s r);
+        posts = λ g t x y v w e h. c .posts g t x y v w e (text-at x y g e h);
         ext = λ x y v s h. c .ext x y v (also-lives x y s v) (same-state x y s) (λ i l. same-cells x y (λ f. Unit {0}) s (λ f u. h f) i l (λ o. tt));
       }
 
   -- THE MIXING THEOREM for a machine of cells
-  pub cells-agree : (Ok : K → Type 0) → CellLaws M Ok → (ks : List K) (ps : List (Post T)) (es es′ : List (Event K T)) → Mixed ks ps es → Mixed ks ps es′
+  pub cells-agree : (Y : Tally (Event K T) (M .X)) (Ok : K → Type 0) → CellLaws M Ok → CellSums M Y Ok
+      → (ks : List K) (ps : List (Post T)) (es es′ : List (Event K T)) → Mixed ks ps es → Mixed ks ps es′
       → (x : M .X) → Lives M x → Apart (M .step) (λ k y f. M .Reach k (M .state y) f) Ok ps ks x → Agree (M .step) (M .ans) es es′ x
-  cells-agree Ok c = mixes-agree machine Ok (cell-laws Ok c)
+  cells-agree Y Ok c s = mixes-agree machine Y Ok (cell-laws Ok c) (cell-sums Y Ok s)

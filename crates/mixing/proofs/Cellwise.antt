@@ -3,6 +3,7 @@ use mathlib.Core.Path.{_≡_}
 use mathlib.Core.Bool.{Bool, true}
 use Prim.Native.Nat.{ℕ, _<_}
 use Rattle.mixing.specs.Event.{Event, key, post}
+use Rattle.mixing.proofs.Machine.{Tally}
 
 -- A machine of `size` cells
 pub record Cellwise (K T : Type 0) : Type 1 where
@@ -14,7 +15,7 @@ pub record Cellwise (K T : Type 0) : Type 1 where
   pub C : Type 0
   pub step : Event K T → X → X
   pub ans : Event K T → X → A
-  -- all but what stands in the cells: the state and the marks
+  -- all but what stands in the cells and what is summed up: the state and the marks
   pub state : X → S
   -- what stands in a cell
   pub cell : ℕ → X → C
@@ -78,8 +79,23 @@ module _ {K T : Type 0} (M : Cellwise K T) where
         → M .cell i x ≡ M .cell i y → M .cell i (M .step (post g t) x) ≡ M .cell i (M .step (post g t) y)
     pub stays : (x : M .X) (i : ℕ) → i < M .size → Lives x → Among (λ f. ¬ (f ≡ g)) x i → M .cell i (M .step (post g t) x) ≡ M .cell i x
 
-  -- The laws of a machine of cells: each key that is allowed meets its law, each post too, and state and cells are all there is
+  -- The laws of a machine of cells: each key that is allowed meets its law, each post too
   pub record CellLaws (Ok : K → Type 0) : Type 0 where
     pub keys : (k : K) → Ok k → KeyLaw k
     pub posts : (g : ℕ) (t : T) → PostLaw g t
-    pub ext : (x y : M .X) → Lives x → Lives y → M .state x ≡ M .state y → ((i : ℕ) → i < M .size → M .cell i x ≡ M .cell i y) → x ≡ y
+
+  -- the same stands in every cell
+  abbrev pub AllCells : M .X → M .X → Type 0
+  AllCells x y = (i : ℕ) → i < M .size → M .cell i x ≡ M .cell i y
+
+  -- The law of a sum: what a key adds goes by the state, the protected cells and the fields in its reach, what a post adds by the frame and the cells of its field;
+  -- it does not matter which of two is added first; and state, cells and sum are all there is
+  pub record CellSums (Y : Tally (Event K T) (M .X)) (Ok : K → Type 0) : Type 0 where
+    pub swap : (b c d : Y .B) → Y .add (Y .add b c) d ≡ Y .add (Y .add b d) c
+    pub summed : (e : Event K T) (x : M .X) → Lives x → Y .sum (M .step e x) ≡ Y .add (Y .sum x) (Y .adds e x)
+    pub keys : (k : K) → Ok k → (x y : M .X) → Lives x → Lives y → M .state x ≡ M .state y → SameCells (M .Reach k (M .state x)) x y
+        → Y .adds (key k) x ≡ Y .adds (key k) y
+    pub posts : (g : ℕ) (t : T) (x y : M .X) → Lives x → Lives y → frameOf x ≡ frameOf y
+        → ((i : ℕ) → i < M .size → M .unprotected (frameOf x) i ≡ true → M .number (frameOf x) i ≡ g → M .cell i x ≡ M .cell i y)
+        → Y .adds (post g t) x ≡ Y .adds (post g t) y
+    pub ext : (x y : M .X) → Lives x → Lives y → M .state x ≡ M .state y → AllCells x y → Y .sum x ≡ Y .sum y → x ≡ y

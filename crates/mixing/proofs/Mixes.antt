@@ -45,7 +45,7 @@ module _ {K T : Type 0} where
 
 module _ {T : Type 0} where
   -- a post whose text is the first of its field can be taken out
-  take-out : (p : Post T) (l : List T) (ps : List (Post T)) → textsTo (p .field) ps ≡ p .text ∷ l → (qs : List (Post T)) × Takes p ps qs
+  pub take-out : (p : Post T) (l : List T) (ps : List (Post T)) → textsTo (p .field) ps ≡ p .text ∷ l → (qs : List (Post T)) × Takes p ps qs
   take-out p l [] h = absurd (cons-not-nil (p .text) l (sym h))
   take-out p l (q ∷ ps) h = go (take-out p l ps) (eqb (q .field) (p .field)) refl h
     where
@@ -61,7 +61,7 @@ module _ {T : Type 0} where
           let r = ih (rw e at w) in
           (q ∷ r .0, later (eqb-false (q .field) (p .field) e) (r .1))
 
-  no-posts : (ps : List (Post T)) → ((f : ℕ) → [] ≡ textsTo f ps) → [] ≡ ps
+  pub no-posts : (ps : List (Post T)) → ((f : ℕ) → [] ≡ textsTo f ps) → [] ≡ ps
   no-posts [] h = refl
   no-posts (p ∷ ps) h = absurd (cons-not-nil (p .text) (textsTo (p .field) ps) (sym (rw (eq-eqb (p .field) (p .field) refl) at (h (p .field)))))
 

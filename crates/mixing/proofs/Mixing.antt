@@ -1,4 +1,4 @@
--- Two mixes of the same keys and posts agree: the keys' part of each ends as the run of the keys alone, and a posted field as the run of the posts to it
+-- Two mixes of the same keys and posts are alike: the keys' part of each ends as the run of the keys alone, and a posted field as the run of the posts to it
 -- alone. Each is an unwinding. Assumes nothing.
 use mathlib.Core.Path.{_≡_, refl, sym, _∙_, subst}
 use mathlib.Core.Bool.{true, false, true≢false, false≢true}
@@ -6,7 +6,7 @@ use mathlib.Core.List.{List, [], _∷_, map}
 use Prim.Native.Nat.{ℕ}
 use borrow.Author.Tests.{eqb-true, eqb-false}
 use Rattle.mixing.specs.Event.{Event, key, post, run, answers, isKey, isPost, keysOf, postsTo}
-use Rattle.mixing.specs.Mix.{Post, Unnamed, Mixed, textsTo, Apart, Agree}
+use Rattle.mixing.specs.Mix.{Post, Unnamed, Mixed, textsTo, Apart}
 use Rattle.mixing.proofs.Events.{Free, Named, each-named, kept-keys, kept-posts, no-answers}
 use Rattle.mixing.proofs.Machine.{Machine, Laws, reach}
 use Rattle.mixing.proofs.Mixes.{mixed-keys, mixed-posts, unnamed?}
@@ -63,7 +63,7 @@ module _ {K T : Type 0} (M : Machine K T) (Ok : K → Type 0) (F : ℕ → Type 
           let sx = q .still x (r .0) in
           let sy = q .still y (r .1) in
           let own : M .text g (M .step (post g t) x) ≡ M .text g (M .step (post g t) y) = q .own x y (r .0) (r .1) (r .2) (rw e (r .3)) in (
-            q .answer x y (r .0) (r .1) (r .2),
+            q .answer x y (r .0) (r .1) (r .2) (rw e (r .3)),
             (rw sx (r .0), rw sy (r .1), cc, subst (λ (n : ℕ). M .text n (M .step (post g t) x) ≡ M .text n (M .step (post g t) y)) e own),
           )
 
@@ -101,34 +101,46 @@ pub apart-safe : {K T : Type 0} (M : Machine K T) (Ok : K → Type 0) (ps : List
 apart-safe M Ok ps [] x h = tt
 apart-safe M Ok ps (k ∷ ks) x h = ((h .0, h .1), apart-safe M Ok ps ks (M .step (key k) x) (h .2))
 
--- THE MIXING THEOREM: two mixes of the keys ks and the posts ps agree, where no key's reach holds a field that a post of ps names
-pub mixes-agree : {K T : Type 0} (M : Machine K T) (Ok : K → Type 0) → Laws M Ok
-    → (ks : List K) (ps : List (Post T)) (es es′ : List (Event K T)) → Mixed ks ps es → Mixed ks ps es′
-    → (x : M .X) → M .Live (M .shape x) → Apart (M .step) (reach M) Ok ps ks x → Agree (M .step) (M .ans) es es′ x
-mixes-agree {K} {T} M Ok L ks ps es es′ m m′ x v apart =
-    record {
-      ends = L .ext (run (M .step) es x) (run (M .step) es′ x) (keys es m .0 .0) (keys es m .0 .1 ∙ sym (keys es′ m′ .0 .1)) (λ f. texts f (unnamed? f ps));
-      keys = keys es m .1 ∙ sym (keys es′ m′ .1);
-      posts = λ f. posts f (unnamed? f ps);
-    }
+-- what two lists of events share, run from x, whatever is summed up beside
+pub record Alike {K T : Type 0} (M : Machine K T) (es es′ : List (Event K T)) (x : M .X) : Type 0 where
+  pub live : M .Live (M .shape (run (M .step) es x))
+  pub shapes : M .shape (run (M .step) es x) ≡ M .shape (run (M .step) es′ x)
+  pub texts : (f : ℕ) → M .text f (run (M .step) es x) ≡ M .text f (run (M .step) es′ x)
+  pub keys : answers (M .step) (M .ans) isKey es x ≡ answers (M .step) (M .ans) isKey es′ x
+  pub posts : (f : ℕ) → answers (M .step) (M .ans) (isPost f) es x ≡ answers (M .step) (M .ans) (isPost f) es′ x
+
+module _ {K T : Type 0} (M : Machine K T) (Ok : K → Type 0) (L : Laws M Ok) (ks : List K) (ps : List (Post T)) (x : M .X) (v : M .Live (M .shape x))
+    (apart : Apart (M .step) (reach M) Ok ps ks x)
   where
-    F : ℕ → Type 0
+    abbrev pub F : ℕ → Type 0
     F = Unnamed ps
 
-    safe : (es : List (Event K T)) → Mixed ks ps es → AllSafe (M .step) (Safe M Ok F) es x
-    safe es m = all-safe M Ok F L es x v (λ f w. mixed-posts f m ∙ w) (rw (mixed-keys m) (apart-safe M Ok ps ks x apart))
+    -- every event of a mix is safe
+    pub mixed-safe : (es : List (Event K T)) → Mixed ks ps es → AllSafe (M .step) (Safe M Ok F) es x
+    mixed-safe es m = all-safe M Ok F L es x v (λ f w. mixed-posts f m ∙ w) (rw (mixed-keys m) (apart-safe M Ok ps ks x apart))
 
     keys : (es : List (Event K T)) → Mixed ks ps es → Same (M .step) (M .ans) isKey (RelK M Ok F) es (map key ks) x x
-    keys es m = rw (mixed-keys m) at (keys-alone M Ok F L es x v (safe es m))
+    keys es m = rw (mixed-keys m) at (keys-alone M Ok F L es x v (mixed-safe es m))
 
     posted : (f : ℕ) → ¬ F f → (es : List (Event K T)) → Mixed ks ps es
         → Same (M .step) (M .ans) (isPost f) (RelP M Ok F f) es (map (post f) (textsTo f ps)) x x
-    posted f nf es m = rw (mixed-posts f m) at (posts-alone M Ok F L f nf es x v (safe es m))
+    posted f nf es m = rw (mixed-posts f m) at (posts-alone M Ok F L f nf es x v (mixed-safe es m))
 
-    texts : (f : ℕ) → Dec (F f) → M .text f (run (M .step) es x) ≡ M .text f (run (M .step) es′ x)
-    texts f (yes w) = keys es m .0 .2 f w ∙ sym (keys es′ m′ .0 .2 f w)
-    texts f (no n) = posted f n es m .0 .3 ∙ sym (posted f n es′ m′ .0 .3)
+    -- two mixes of the keys ks and the posts ps are alike, where no key's reach holds a field that a post of ps names
+    pub mixes-alike : (es es′ : List (Event K T)) → Mixed ks ps es → Mixed ks ps es′ → Alike M es es′ x
+    mixes-alike es es′ m m′ =
+        record {
+          live = keys es m .0 .0;
+          shapes = keys es m .0 .1 ∙ sym (keys es′ m′ .0 .1);
+          texts = λ f. texts f (unnamed? f ps);
+          keys = keys es m .1 ∙ sym (keys es′ m′ .1);
+          posts = λ f. posts f (unnamed? f ps);
+        }
+      where
+        texts : (f : ℕ) → Dec (F f) → M .text f (run (M .step) es x) ≡ M .text f (run (M .step) es′ x)
+        texts f (yes w) = keys es m .0 .2 f w ∙ sym (keys es′ m′ .0 .2 f w)
+        texts f (no n) = posted f n es m .0 .3 ∙ sym (posted f n es′ m′ .0 .3)
 
-    posts : (f : ℕ) → Dec (F f) → answers (M .step) (M .ans) (isPost f) es x ≡ answers (M .step) (M .ans) (isPost f) es′ x
-    posts f (yes w) = no-answers (M .step) (M .ans) f es x (mixed-posts f m ∙ w) ∙ sym (no-answers (M .step) (M .ans) f es′ x (mixed-posts f m′ ∙ w))
-    posts f (no n) = posted f n es m .1 ∙ sym (posted f n es′ m′ .1)
+        posts : (f : ℕ) → Dec (F f) → answers (M .step) (M .ans) (isPost f) es x ≡ answers (M .step) (M .ans) (isPost f) es′ x
+        posts f (yes w) = no-answers (M .step) (M .ans) f es x (mixed-posts f m ∙ w) ∙ sym (no-answers (M .step) (M .ans) f es′ x (mixed-posts f m′ ∙ w))
+        posts f (no n) = posted f n es m .1 ∙ sym (posted f n es′ m′ .1)
