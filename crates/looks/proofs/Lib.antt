@@ -1,0 +1,4 @@
+-- The laws of looking before writing.
+pub mod Patches
+pub mod Moves
+pub mod Pages
