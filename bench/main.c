@@ -7,34 +7,39 @@
 #include <time.h>
 #include <vterm.h>
 
-// The calls of the two static libraries, for memories of 48 and of 96 rows. A slice is a pointer, then a length.
+// The calls of the two static libraries, for memories of 48 and of 96 rows. A slice is a pointer, then a length; `changed` is two words, the rows that changed since the
+// fresh terminal, or since the form was painted.
 #define CALLS(rows)                                                                                                                      \
     size_t bench_host_##rows(uint8_t *chars, size_t nc, uint8_t *attrs, size_t na, const uint8_t *bytes, size_t nb, uint8_t *reply,      \
-                             size_t nr);                                                                                                 \
+                             size_t nr, uint64_t *changed, size_t nw);                                                                   \
+    uint64_t bench_lines_##rows(uint8_t *chars, size_t nc, uint8_t *attrs, size_t na, const uint8_t *bytes, size_t nb, uint8_t *reply,   \
+                                size_t nr, uint64_t *changed, size_t nw);                                                                \
     uint8_t bench_posts_##rows(uint8_t *chars, size_t nc, uint8_t *attrs, size_t na, const uint8_t *form, size_t nf, uint8_t *reply,     \
-                               size_t nr, size_t field, const uint8_t *text, size_t nt, size_t times);                                   \
+                               size_t nr, uint64_t *changed, size_t nw, size_t field, const uint8_t *text, size_t nt, size_t times);     \
     uint8_t bench_keys_##rows(uint8_t *chars, size_t nc, uint8_t *attrs, size_t na, const uint8_t *form, size_t nf, uint8_t *reply,      \
-                              size_t nr, uint16_t code, uint16_t other, size_t times);                                                   \
+                              size_t nr, uint64_t *changed, size_t nw, uint16_t code, uint16_t other, size_t times);                     \
     size_t bench_blocks_##rows(uint8_t *chars, size_t nc, uint8_t *attrs, size_t na, const uint8_t *form, size_t nf, uint8_t *reply,     \
-                               size_t nr, size_t times);
+                               size_t nr, uint64_t *changed, size_t nw, size_t times);
 CALLS(48)
 CALLS(96)
 
-enum { RUNS = 9, LINES = 50000, PLACES = 250000, POSTS = 60000, KEYS = 60000, ROUND = 120007, BLOCKS = 3000 };
+enum { RUNS = 9, LINES = 50000, PLACES = 250000, POSTS = 60000, KEYS = 60000, ROUND = 120007, BLOCKS = 3000, STREAMS = 2000 };
 enum { MOST_CELLS = 96 * COLUMNS, FORMS = 3, SIZES = 2 };
 
-struct memory { uint8_t chars[MOST_CELLS], attrs[MOST_CELLS]; };
+struct memory { uint8_t chars[MOST_CELLS], attrs[MOST_CELLS]; uint64_t changed[2]; };
 struct stream { uint8_t *bytes; size_t count; };
 
 static const size_t FIELDS[FORMS] = {6, 60, 600}, APART[FORMS] = {3, 60, 600};
 
 static struct memory ours, theirs;
+static uint64_t damaged[2]; // by libvterm's own record
 static uint8_t reply[2 * MOST_CELLS], their_reply[2 * MOST_CELLS];
 
 // The number of rows in use, and what goes with it.
 static struct {
     size_t rows, cells, room;
     __typeof__(bench_host_48) *host;
+    __typeof__(bench_lines_48) *lines;
     __typeof__(bench_posts_48) *posts;
     __typeof__(bench_keys_48) *keys;
     __typeof__(bench_blocks_48) *blocks;
@@ -44,7 +49,7 @@ static struct {
     VTermScreen *vscreen;
 } sizes[SIZES], *at;
 #define OURS ours.chars, at->cells, ours.attrs, at->cells
-#define REPLY reply, at->room
+#define REPLY reply, at->room, ours.changed, 2
 
 // The processor time of this process, so that other processes count little.
 static double now(void) {
@@ -86,11 +91,11 @@ static struct stream begin(size_t room) {
 // A printable character, a different one for each place.
 static char letter(size_t n) { return (char)(33 + n * 7 % 94); }
 
-// Lines of 78 characters, CR, LF; a last character shows where the cursor is.
-static struct stream text_stream(void) {
-    struct stream s = begin(LINES * 80 + 16);
+// Lines of so many characters, CR, LF, each line one letter on from the one before it, or all alike; a last character shows where the cursor is.
+static struct stream line_stream(size_t length, size_t step) {
+    struct stream s = begin(LINES * (length + 2) + 16);
     for (size_t n = 0; n < LINES; n++) {
-        for (size_t i = 0; i < 78; i++) s.bytes[s.count++] = letter(n + i);
+        for (size_t i = 0; i < length; i++) s.bytes[s.count++] = letter(n * step + i);
         add(&s, "\r\n");
     }
     add(&s, "X");
@@ -121,6 +126,19 @@ static struct stream form_stream(size_t fields, size_t apart) {
     }
     add(&s, "\033W\033H");
     return s;
+}
+
+// Few letters, blanks, CR and LF, and places near the memory's end: much of it writes what is there already.
+static void random_stream(struct stream *s) {
+    size_t parts = 1 + rand() % (rand() % 4 == 0 ? 2000 : 200), letters = 1 + rand() % 3;
+    s->count = 0;
+    for (size_t n = 0; n < parts; n++) switch (rand() % 20) {
+        case 0: add(s, "\n"); break;
+        case 1: add(s, "\r"); break;
+        case 2: add(s, "%50s", ""); break;
+        case 3: add(s, "\033&a%dc%dR", 60 + rand() % 20, (int)at->rows - 1 - rand() % (rand() % 3 == 0 ? (int)at->rows : 2)); break;
+        default: add(s, "%c", " ab"[rand() % letters]);
+        }
 }
 
 // ---- the lines
@@ -177,20 +195,31 @@ static double run_plain(struct stream s) {
     size_t written;
     double start = now();
     at->plain->fresh(&t, &at->lent);
+    t.changed[0] = t.changed[1] = 0;
     int number = at->plain->host(&t, &at->lent, s.bytes, s.count, &written, 1);
     double end = now();
     expect(number == 0, "the plain C takes the whole stream");
+    memcpy(theirs.changed, t.changed, sizeof t.changed);
     return end - start;
 }
 
-// In parts, as libvterm lays out what it reads on the stack.
-static double run_vterm(struct stream s) {
-    enum { PART = 4096 };
+// What libvterm tells of the rows it wrote to.
+static int note_damage(VTermRect rect, void *user) {
+    (void)user;
+    for (int row = rect.start_row; row < rect.end_row; row++) damaged[row / 64] |= (uint64_t)1 << row % 64;
+    return 1;
+}
+
+// In parts, as libvterm lays out what it reads on the stack; after each it tells what it wrote to.
+static double run_vterm(struct stream s, size_t size) {
     double start = now();
     vterm_screen_reset(at->vscreen, 1);
-    for (size_t from = 0; from < s.count; from += PART) {
-        size_t part = s.count - from < PART ? s.count - from : PART;
+    vterm_screen_flush_damage(at->vscreen);
+    damaged[0] = damaged[1] = 0;
+    for (size_t from = 0; from < s.count; from += size) {
+        size_t part = s.count - from < size ? s.count - from : size;
         expect(vterm_input_write(at->vterm, (const char *)s.bytes + from, part) == part, "libvterm takes the whole stream");
+        vterm_screen_flush_damage(at->vscreen);
     }
     return now() - start;
 }
@@ -203,17 +232,52 @@ static int vterm_agrees(void) {
             uint32_t c = cell.chars[0] == 0 ? 32 : cell.chars[0];
             if (c != ours.chars[row * COLUMNS + col]) return 0;
         }
-    return 1;
+    return (ours.changed[0] & ~damaged[0]) == 0 && (ours.changed[1] & ~damaged[1]) == 0;
 }
 
 static void expect_same(void) {
     int same = memcmp(ours.chars, theirs.chars, at->cells) == 0 && memcmp(ours.attrs, theirs.attrs, at->cells) == 0;
     expect(same, "both memories are the same as the plain C's");
+    expect(memcmp(ours.changed, theirs.changed, sizeof ours.changed) == 0, "the rows that changed are the plain C's");
+}
+
+// Random streams, of which no time is taken.
+static void compare_streams(void) {
+    struct stream s = begin(2000 * 50 + 16);
+    for (size_t n = 0; n < STREAMS; n++) {
+        random_stream(&s);
+        run_ours(s);
+        run_plain(s);
+        expect_same();
+    }
+    free(s.bytes);
 }
 
 // One stream through all three; `own` is the same in libvterm's addressing.
 static struct round stream_round(struct stream s, struct stream own) {
-    struct round r = {run_ours(s), run_plain(s), run_vterm(own)};
+    struct round r = {run_ours(s), run_plain(s), run_vterm(own, 4096)};
+    expect_same();
+    expect(vterm_agrees(), "the characters are the same as libvterm's, and it tells of each row that changed");
+    return r;
+}
+
+// Lines of 80 bytes, each with a report behind it; libvterm tells what it wrote to as often.
+static struct round report_round(struct stream s) {
+    struct plain t;
+    struct round r = {0};
+    size_t sum;
+    s.count -= s.count % 80;
+    double start = now();
+    size_t count = at->lines(OURS, s.bytes, s.count, REPLY);
+    r.ours = now() - start;
+    start = now();
+    at->plain->fresh(&t, &at->lent);
+    t.changed[0] = t.changed[1] = 0;
+    int number = at->plain->lines(&t, &at->lent, s.bytes, s.count, &sum);
+    r.plain = now() - start;
+    expect(number == 0 && count == sum, "the reports of the plain C tell of as many rows");
+    memcpy(theirs.changed, t.changed, sizeof t.changed);
+    r.vterm = run_vterm(s, 80);
     expect_same();
     expect(vterm_agrees(), "the characters are the same as libvterm's");
     return r;
@@ -226,6 +290,7 @@ static double paint(struct stream form, struct plain *t) {
     double end = now();
     theirs = ours;
     *t = (struct plain){.format = true};
+    expect(ours.changed[0] == 0 && ours.changed[1] == 0, "nothing has changed since the form was painted");
     return end - start;
 }
 
@@ -241,6 +306,7 @@ static struct round post_round(struct stream form, size_t field) {
     number = at->plain->posts(&t, &at->lent, field, text, sizeof text, POSTS);
     r.plain = now() - start;
     expect(number == 0, "the plain C's post is done");
+    memcpy(theirs.changed, t.changed, sizeof t.changed);
     expect_same();
     return r;
 }
@@ -260,6 +326,7 @@ static struct round key_round(struct stream form, uint16_t code, uint16_t other,
     r.plain = now() - start;
     expect(number == 0, "the plain C's key is done");
     at->plain->host(&t, &at->lent, shown, sizeof shown, &written, 1);
+    memcpy(theirs.changed, t.changed, sizeof t.changed);
     expect_same();
     return r;
 }
@@ -276,6 +343,8 @@ static struct round block_round(struct stream form) {
     int number = at->plain->host(&t, &at->lent, ask, sizeof ask, &others, BLOCKS);
     r.plain = now() - start;
     expect(number == 0 && count == others && memcmp(reply, their_reply, count) == 0, "both blocks are the same");
+    memcpy(theirs.changed, t.changed, sizeof t.changed);
+    expect_same();
     return r;
 }
 
@@ -297,6 +366,7 @@ static void show_distances(void) {
 }
 
 static void prepare(size_t rows) {
+    static const VTermScreenCallbacks callbacks = {.damage = note_damage};
     at->rows = rows;
     at->cells = rows * COLUMNS;
     at->room = 2 * at->cells;
@@ -304,12 +374,15 @@ static void prepare(size_t rows) {
     at->vterm = vterm_new(rows, COLUMNS);
     vterm_set_utf8(at->vterm, 0);
     at->vscreen = vterm_obtain_screen(at->vterm);
+    vterm_screen_set_callbacks(at->vscreen, &callbacks, NULL);
+    vterm_screen_set_damage_merge(at->vscreen, VTERM_DAMAGE_SCROLL);
 }
 
 #define PREPARE(i, count)                 \
     do {                                  \
         at = &sizes[i];                   \
         at->host = bench_host_##count;    \
+        at->lines = bench_lines_##count;  \
         at->posts = bench_posts_##count;  \
         at->keys = bench_keys_##count;    \
         at->blocks = bench_blocks_##count; \
@@ -318,17 +391,21 @@ static void prepare(size_t rows) {
     } while (0)
 
 int main(void) {
-    struct stream text = text_stream(), form[FORMS], places[SIZES], own[SIZES];
+    struct stream text = line_stream(78, 1), alike = line_stream(78, 0), empty = line_stream(0, 0), form[FORMS], places[SIZES], own[SIZES];
     PREPARE(0, 48);
     PREPARE(1, 96);
     for (int k = 0; k < SIZES; k++) {
         at = &sizes[k];
         places[k] = place_stream(0);
         own[k] = place_stream(1);
+        compare_streams();
     }
     for (int f = 0; f < FORMS; f++) form[f] = form_stream(FIELDS[f], 3);
     print_head();
     LINE("text that scrolls", text.count, "a byte", stream_round(text, text));
+    LINE("text, a report a line", text.count, "a byte", report_round(text));
+    LINE("the same line, a report a line", alike.count, "a byte", report_round(alike));
+    LINE("empty lines that scroll", LINES, "a line", stream_round(empty, empty));
     LINE("cursor addressing", PLACES, "a place with eight characters", stream_round(places[k], own[k]));
     LINE("post into field 0 of 600", POSTS, "a post", post_round(form[2], 0));
     LINE("post into field 500 of 600", POSTS, "a post", post_round(form[2], 500));

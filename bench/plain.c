@@ -1,15 +1,19 @@
-// What the benchmark times, in straightforward C: a switch on the reading state, memmove to scroll, and plain scans of the attributes.
+// What the benchmark times, in straightforward C: a switch on the reading state, memcmp row by row and then memmove to scroll, and plain scans of the attributes.
 // It is compiled once for each number of rows, with ROWS and with PLAIN, the name of its calls.
 #include "plain.h"
 #include <string.h>
 
-enum { CELLS = ROWS * COLUMNS };
+enum { CELLS = ROWS * COLUMNS, LAST = (ROWS - 1) * COLUMNS };
+#define BITS(count) ((count) >= 64 ? UINT64_MAX : ((uint64_t)1 << (count) % 64) - 1)
+static const uint64_t ALL[2] = {BITS(ROWS), ROWS > 64 ? BITS(ROWS - 64) : 0};
+static const uint8_t NO_ATTRS[COLUMNS];
 
 static bool is_sized(const struct lent *m) { return m->chars_size == CELLS && m->attrs_size == CELLS; }
 
 static bool is_good(const struct plain *t) {
     if (t->col >= COLUMNS || t->top > ROWS - 24 || t->row < t->top || t->row > t->top + 23) return false;
     if (t->pending > 4 || t->reading > 6 || t->sign > 2 || t->value < 0 || t->value > 999) return false;
+    if ((t->changed[0] & ~ALL[0]) != 0 || (t->changed[1] & ~ALL[1]) != 0) return false;
     if (t->digit) return t->reading == 3;
     return t->value == 0 && (t->reading == 3 || t->sign == 0);
 }
@@ -22,6 +26,8 @@ static void go(struct plain *t, size_t row, size_t col) {
     if (row < t->top) t->top = row;
     if (row > t->top + 23) t->top = row - 23;
 }
+
+static void note(struct plain *t, size_t row) { t->changed[row / 64] |= (uint64_t)1 << row % 64; }
 
 static bool starts(uint8_t attr, int last) {
     int mark = attr % 16;
@@ -36,23 +42,53 @@ static size_t field_end(const uint8_t *attrs, size_t cell) {
 }
 
 // ---- host bytes
-static void feed_line(struct plain *t, const struct lent *m) {
-    if (t->row < ROWS - 1) {
-        go(t, t->row + 1, t->col);
+static void move_up(uint8_t *memory, uint8_t blank) {
+    memmove(memory, memory + COLUMNS, LAST);
+    memset(memory + LAST, blank, COLUMNS);
+}
+
+static bool is_blank(const uint8_t *chars) {
+    for (size_t i = 0; i < COLUMNS; i++)
+        if (chars[i] != 32) return false;
+    return true;
+}
+
+// The last cell gets its character, then all rows move up.
+static void scroll(struct plain *t, const struct lent *m, uint8_t end) {
+    uint8_t *c = m->chars, *a = m->attrs;
+    if (t->changed[0] == ALL[0] && t->changed[1] == ALL[1]) {
+        c[CELLS - 1] = end;
+        move_up(c, 32);
+        move_up(a, 0);
         return;
     }
+    if (!is_blank(c + LAST) || memcmp(a + LAST, NO_ATTRS, COLUMNS) != 0) note(t, ROWS - 1);
+    c[CELLS - 1] = end;
+    for (size_t row = 0; row < ROWS - 1; row++, c += COLUMNS, a += COLUMNS)
+        if (c[0] != c[COLUMNS] || memcmp(c, c + COLUMNS, COLUMNS) != 0 || memcmp(a, a + COLUMNS, COLUMNS) != 0) note(t, row);
     memmove(m->chars, m->chars + COLUMNS, CELLS - COLUMNS);
     memset(m->chars + CELLS - COLUMNS, 32, COLUMNS);
     memmove(m->attrs, m->attrs + COLUMNS, CELLS - COLUMNS);
     memset(m->attrs + CELLS - COLUMNS, 0, COLUMNS);
 }
 
+static void feed_line(struct plain *t, const struct lent *m) {
+    if (t->row < ROWS - 1) go(t, t->row + 1, t->col);
+    else scroll(t, m, m->chars[CELLS - 1]);
+}
+
 static void type(struct plain *t, const struct lent *m, uint8_t b) {
-    m->chars[t->row * COLUMNS + t->col] = b;
+    uint8_t *cell = &m->chars[t->row * COLUMNS + t->col];
     if (t->col < COLUMNS - 1) {
+        if (*cell != b) note(t, t->row);
+        *cell = b;
         t->col++;
+    } else if (t->row < ROWS - 1) {
+        if (*cell != b) note(t, t->row);
+        *cell = b;
+        go(t, t->row + 1, 0);
     } else {
-        feed_line(t, m);
+        scroll(t, m, b);
         t->col = 0;
     }
 }
@@ -160,9 +196,33 @@ static int host(struct plain *t, const struct lent *m, const uint8_t *bytes, siz
 }
 
 static void fresh(struct plain *t, const struct lent *m) {
-    *t = (struct plain){0};
+    *t = (struct plain){.changed = {ALL[0], ALL[1]}};
     memset(m->chars, 32, CELLS);
     memset(m->attrs, 0, CELLS);
+}
+
+// How many rows changed, and the first of them or the number of rows; then none has.
+static int report(struct plain *t, size_t *count, size_t *first) {
+    *count = 0;
+    *first = ROWS;
+    if (!is_good(t)) return 2;
+    if (t->changed[1] != 0) *first = 64 + __builtin_ctzll(t->changed[1]);
+    if (t->changed[0] != 0) *first = __builtin_ctzll(t->changed[0]);
+    *count = __builtin_popcountll(t->changed[0]) + __builtin_popcountll(t->changed[1]);
+    t->changed[0] = t->changed[1] = 0;
+    return 0;
+}
+
+static int lines(struct plain *t, const struct lent *m, const uint8_t *bytes, size_t count, size_t *sum) {
+    size_t written, rows, first;
+    int number = 0;
+    *sum = 0;
+    for (; count >= 80; count -= 80, bytes += 80) {
+        number = host(t, m, bytes, 80, &written);
+        report(t, &rows, &first);
+        *sum += rows;
+    }
+    return number;
 }
 
 static int hosts(struct plain *t, const struct lent *m, const uint8_t *bytes, size_t count, size_t *written, size_t times) {
@@ -190,6 +250,10 @@ static int post(struct plain *t, const struct lent *m, size_t field, const uint8
         if (count > room) return 10;
         for (size_t n = 0; n < count; n++)
             if (!allows(m->attrs[i] % 16, text[n])) return 6;
+        bool differ = memcmp(m->chars + i, text, count) != 0;
+        for (size_t n = count; n < room; n++)
+            if (m->chars[i + n] != 32) differ = true;
+        if (differ) note(t, i / COLUMNS);
         memcpy(m->chars + i, text, count);
         memset(m->chars + i + count, 32, room - count);
         return 0;
@@ -221,13 +285,14 @@ static size_t prev_start(const uint8_t *attrs, size_t cell) {
 }
 
 // With format on: what stands in unprotected cells from the cursor on goes, marks stay.
-static void clear_display(const struct plain *t, const struct lent *m) {
+static void clear_display(struct plain *t, const struct lent *m) {
     size_t cell = t->row * COLUMNS + t->col;
     int kind = 0;
     for (size_t i = t->row * COLUMNS; i < CELLS; i++) {
         if (i % COLUMNS == 0) kind = 0;
         if (starts(m->attrs[i], 5)) kind = m->attrs[i] % 16;
         if (i < cell || kind < 1 || kind > 3) continue;
+        if (m->chars[i] != 32 || m->attrs[i] >= 16) note(t, i / COLUMNS);
         m->chars[i] = 32;
         m->attrs[i] %= 16;
     }
@@ -254,4 +319,4 @@ static int keys(struct plain *t, const struct lent *m, int code, int other, size
     return number;
 }
 
-const struct plain_calls PLAIN = {fresh, hosts, posts, keys};
+const struct plain_calls PLAIN = {fresh, hosts, lines, posts, keys};

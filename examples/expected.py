@@ -3,6 +3,7 @@
 
     expected.py session [48]           [FILE..]
     expected.py show [48] [host] [raw] [FILE..]
+    expected.py show [48] changes      [FILE..]
 
 A FILE holds session records, or with `host` one host stream; without a FILE it is standard input. The terminal has 96 rows, or with `48` as many.
 """
@@ -11,7 +12,7 @@ import sys
 
 sys.dont_write_bytecode = True
 
-from model import COLUMNS, RECORD, SHORT_RECORD, Terminal, run, run_host
+from model import COLUMNS, RECORD, SHORT_RECORD, Terminal, run, run_host, run_record
 
 PENDING = ["none", "absolute cursor", "window cursor", "status", "block"]
 MARGIN = " " * 7
@@ -23,17 +24,34 @@ def session_lines(terminal, results):
     yield "end %d %d %d" % (terminal.row, terminal.col, terminal.top)
 
 
+def words_of(bits):
+    """Two words of sixteen hexadecimal digits: rows 0 to 63 and the rows from 64 on, the first row the lowest bit."""
+    number = sum(2 ** row for row, is_set in enumerate(bits) if is_set)
+    return "%016x %016x" % (number % 2 ** 64, number // 2 ** 64)
+
+
 def raw_lines(terminal, replies):
     t = terminal
     for number, reply in enumerate(replies):
         yield ("reply %d %s" % (number, bytes(reply).hex())).rstrip()
-    yield "state row %d col %d top %d format %d insert %d lock %d pending %d reading %d sign %d digit %d value %d tabs %s" % (
+    yield "state row %d col %d top %d format %d insert %d lock %d pending %d reading %d sign %d digit %d value %d tabs %s bits %s" % (
         t.row, t.col, t.top, t.format, t.insert, t.lock, t.pending, t.reading, t.sign, t.digit, t.value,
-        "".join("1" if tab else "0" for tab in t.tabs))
+        "".join("1" if tab else "0" for tab in t.tabs), words_of(t.bits))
     for row in range(t.rows):
         cells = slice(row * COLUMNS, (row + 1) * COLUMNS)
         yield "chars %d %s" % (row, bytes(t.chars[cells]).hex())
         yield "attrs %d %s" % (row, bytes(t.attrs[cells]).hex())
+
+
+def changes_lines(data, rows):
+    """For each record its number and answer, then the report behind it: how many rows it changed, the first of them, and all of them. A short part has no line."""
+    terminal = Terminal(rows)
+    terminal.report()
+    for number in range(len(data) // RECORD):
+        answer, reply = run_record(terminal, data[number * RECORD:(number + 1) * RECORD])
+        changed = [row for row in range(rows) if terminal.bits[row]]
+        refusal, count, first = terminal.report()
+        yield " ".join(str(n) for n in [number, answer, count, first] + changed)
 
 
 def face(terminal, cell):
@@ -106,6 +124,8 @@ def short_part_lines(results, size):
 def lines(program, words, data):
     """What one file gives."""
     rows, raw = 48 if "48" in words else 96, "raw" in words
+    if "changes" in words:
+        return changes_lines(data, rows)
     if "host" in words:
         terminal = Terminal(rows)
         answer, reply = run_host(terminal, data)
@@ -133,8 +153,10 @@ def file_lines(program, words, names):
 
 
 def main(program, words):
-    asked = [word for word in words if word in (["48"] if program == "session" else ["48", "host", "raw"])]
+    asked = [word for word in words if word in (["48"] if program == "session" else ["48", "host", "raw", "changes"])]
     names = [word for word in words if word not in asked]
+    if "changes" in asked and ("host" in asked or "raw" in asked):
+        sys.exit(__doc__)
     found = file_lines(program, asked, names) if names else lines(program, asked, sys.stdin.buffer.read())
     for line in found:
         print(line)

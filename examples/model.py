@@ -1,10 +1,11 @@
 """A second, independent implementation of document 01, with what document 02 changes, from which the tests' expected outputs are computed.
 
-Plain lists and ifs, no sharing with the Rattle code. `Terminal(rows)` has the three calls:
+Plain lists and ifs, no sharing with the Rattle code. `Terminal(rows)` has the four calls:
 
     host(data, room)   -> answer, bytes taken, reply bytes
     key(code, room)    -> answer, reply bytes
     post(field, text)  -> answer
+    report()           -> answer, how many rows have changed, the first of them
 
 and `run` runs the records of a session from a fresh terminal. `expected.py` prints what the programs print.
 """
@@ -45,9 +46,11 @@ class Terminal:
         self.cells = rows * COLUMNS
         self.last_top = rows - 24
         self.reply_room = 2 * self.cells
+        self.bits = [True] * rows
         self.fresh()
 
     def fresh(self):
+        """All as at the start, but for the rows' bits: a hard reset keeps them."""
         self.chars = [32] * self.cells
         self.attrs = [0] * self.cells
         self.row = self.col = self.top = 0
@@ -70,7 +73,7 @@ class Terminal:
             return False
         if self.reading != ADDRESS and (self.sign != NO_SIGN or self.digit or self.value != 0):
             return False
-        return True
+        return len(self.bits) == self.rows
 
     def entry(self):
         """Answers 1 and 2, which every call tests first; else 0."""
@@ -79,6 +82,31 @@ class Terminal:
         if not self.good():
             return BAD_STATE
         return DONE
+
+    # Rows that changed
+
+    def memory(self):
+        """What each row holds, copied."""
+        rows = []
+        for first in range(0, self.cells, COLUMNS):
+            rows.append((self.chars[first:first + COLUMNS], self.attrs[first:first + COLUMNS]))
+        return rows
+
+    def note(self, before):
+        """Adds the rows in which a character or an attribute byte is another one than before."""
+        after = self.memory()
+        for row in range(self.rows):
+            if after[row] != before[row]:
+                self.bits[row] = True
+
+    def report(self):
+        if not self.good():
+            return BAD_STATE, 0, self.rows
+        count, first = self.bits.count(True), self.rows
+        if True in self.bits:
+            first = self.bits.index(True)
+        self.bits = [False] * self.rows
+        return DONE, count, first
 
     # Fields
 
@@ -376,7 +404,9 @@ class Terminal:
             if len(sent) + len(answer) > room:
                 return NO_ROOM, taken, sent
             sent += answer
+            before = self.memory()
             self.read(byte)
+            self.note(before)
         return DONE, len(data), sent
 
     def read(self, byte):
@@ -544,6 +574,12 @@ class Terminal:
     def key(self, code, room):
         if self.entry() != DONE:
             return self.entry(), []
+        before = self.memory()
+        answer, sent = self.press(code, room)
+        self.note(before)
+        return answer, sent
+
+    def press(self, code, room):
         is_text = 32 <= code <= 126
         if not is_text and not 256 <= code <= 273:
             return BAD_KEY, []
@@ -602,6 +638,12 @@ class Terminal:
     def post(self, number, text):
         if self.entry() != DONE:
             return self.entry()
+        before = self.memory()
+        answer = self.put(number, text)
+        self.note(before)
+        return answer
+
+    def put(self, number, text):
         if self.lock or self.pending != NONE:
             return LOCKED
         if not self.format:

@@ -1,4 +1,5 @@
-// What bench/ times, in a memory of `rows` rows, 24 to 96. Each begins with a fresh terminal in the lent buffers.
+// What bench/ times, in a memory of `rows` rows, 24 to 96. Each begins with a fresh terminal in the lent buffers; `changed`, of two words, gets the rows that changed
+// since then, or since the form was painted.
 ghost use Prim.Native.Nat.{_≤_};
 use key::KeyAnswer;
 use terminal::Terminal;
@@ -10,11 +11,83 @@ pub fn run_host(
     attrs: &mut [u8],
     bytes: &[u8],
     reply: &mut [u8],
+    changed: &mut [u64],
 ) -> usize
     requires { ⌜ (24 ≤ rows) × (rows ≤ 96) ⌝ }
 {
     let begun = terminal::fresh_on(rows, chars, attrs);
-    host::host_on(begun.state, rows, chars, attrs, bytes, reply).taken
+    let told = report::report_on(begun.state, rows);
+    let answer = host::host_on(told.state, rows, chars, attrs, bytes, reply);
+    tell(answer.state, changed);
+    answer.taken
+}
+
+// How many rows the reports told of in all, and the state afterwards.
+struct Lines {
+    sum: u64,
+    state: Terminal,
+}
+
+// The lines of 80 bytes of a host stream, with a report behind each.
+fn report_lines(
+    t: Terminal,
+    rows: usize,
+    chars: &mut [u8],
+    attrs: &mut [u8],
+    bytes: &[u8],
+    reply: &mut [u8],
+) -> Lines
+    requires { ⌜ (24 ≤ rows) × (rows ≤ 96) ⌝ }
+{
+    let mut state = t;
+    let mut sum = 0;
+    let mut at = 0;
+    while 80 <= bytes.len() - at {
+        let end = at + 80;
+        let answer = host::host_on(state, rows, chars, attrs, &bytes[at..end], reply);
+        let told = report::report_on(answer.state, rows);
+        state = told.state;
+        sum = (sum + told.count as u64) % 4294967296;
+        at = end;
+    }
+    Lines {
+        sum: sum,
+        state: state,
+    }
+}
+
+// The lines of 80 bytes of a host stream, with a report behind each; how many rows the reports tell of in all.
+pub fn run_lines(
+    rows: usize,
+    chars: &mut [u8],
+    attrs: &mut [u8],
+    bytes: &[u8],
+    reply: &mut [u8],
+    changed: &mut [u64],
+) -> u64
+    requires { ⌜ (24 ≤ rows) × (rows ≤ 96) ⌝ }
+{
+    let begun = paint(rows, chars, attrs, b"", reply);
+    let lines = report_lines(begun, rows, chars, attrs, bytes, reply);
+    tell(lines.state, changed);
+    lines.sum
+}
+
+// The rows that changed, in two words.
+fn tell(t: Terminal, changed: &mut [u64]) {
+    if 2 <= changed.len() {
+        changed[0] = t.changes.low;
+        changed[1] = t.changes.high;
+    }
+}
+
+// A fresh terminal on which a host stream paints a form, and which has reported its rows.
+fn paint(rows: usize, chars: &mut [u8], attrs: &mut [u8], form: &[u8], reply: &mut [u8]) -> Terminal
+    requires { ⌜ (24 ≤ rows) × (rows ≤ 96) ⌝ }
+{
+    let begun = terminal::fresh_on(rows, chars, attrs);
+    let painted = host::host_on(begun.state, rows, chars, attrs, form, reply);
+    report::report_on(painted.state, rows).state
 }
 
 // A host stream that paints a form, then one post `times` times; the number of the last.
@@ -24,15 +97,14 @@ pub fn run_posts(
     attrs: &mut [u8],
     form: &[u8],
     reply: &mut [u8],
+    changed: &mut [u64],
     field: usize,
     text: &[u8],
     times: usize,
 ) -> u8
     requires { ⌜ (24 ≤ rows) × (rows ≤ 96) ⌝ }
 {
-    let begun = terminal::fresh_on(rows, chars, attrs);
-    let painted = host::host_on(begun.state, rows, chars, attrs, form, reply);
-    let mut t = painted.state;
+    let mut t = paint(rows, chars, attrs, form, reply);
     let mut number = 0;
     let mut left = times;
     while 0 < left {
@@ -41,6 +113,7 @@ pub fn run_posts(
         number = answer.number;
         left -= 1;
     }
+    tell(t, changed);
     number
 }
 
@@ -83,17 +156,18 @@ pub fn run_keys(
     attrs: &mut [u8],
     form: &[u8],
     reply: &mut [u8],
+    changed: &mut [u64],
     code: u16,
     other: u16,
     times: usize,
 ) -> u8
     requires { ⌜ (24 ≤ rows) × (rows ≤ 96) ⌝ }
 {
-    let begun = terminal::fresh_on(rows, chars, attrs);
-    let painted = host::host_on(begun.state, rows, chars, attrs, form, reply);
-    let answer = press_in_turn(painted.state, rows, chars, attrs, reply, code, other, times);
+    let painted = paint(rows, chars, attrs, form, reply);
+    let answer = press_in_turn(painted, rows, chars, attrs, reply, code, other, times);
     let shown = [88u8];
-    host::host_on(answer.state, rows, chars, attrs, &shown, reply);
+    let last = host::host_on(answer.state, rows, chars, attrs, &shown, reply);
+    tell(last.state, changed);
     answer.number
 }
 
@@ -104,14 +178,13 @@ pub fn run_blocks(
     attrs: &mut [u8],
     form: &[u8],
     reply: &mut [u8],
+    changed: &mut [u64],
     times: usize,
 ) -> usize
     requires { ⌜ (24 ≤ rows) × (rows ≤ 96) ⌝ }
 {
-    let begun = terminal::fresh_on(rows, chars, attrs);
-    let painted = host::host_on(begun.state, rows, chars, attrs, form, reply);
     let ask = [27u8, 100, 17];
-    let mut t = painted.state;
+    let mut t = paint(rows, chars, attrs, form, reply);
     let mut sent = 0;
     let mut left = times;
     while 0 < left {
@@ -120,5 +193,6 @@ pub fn run_blocks(
         sent = answer.written;
         left -= 1;
     }
+    tell(t, changed);
     sent
 }

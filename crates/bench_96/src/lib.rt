@@ -5,8 +5,20 @@ pub extern "C" fn bench_host_96(
     attrs: &mut [u8],
     bytes: &[u8],
     reply: &mut [u8],
+    changed: &mut [u64],
 ) -> usize {
-    bench::run_host(96, chars, attrs, bytes, reply)
+    bench::run_host(96, chars, attrs, bytes, reply, changed)
+}
+
+#[no_mangle]
+pub extern "C" fn bench_lines_96(
+    chars: &mut [u8],
+    attrs: &mut [u8],
+    bytes: &[u8],
+    reply: &mut [u8],
+    changed: &mut [u64],
+) -> u64 {
+    bench::run_lines(96, chars, attrs, bytes, reply, changed)
 }
 
 #[no_mangle]
@@ -15,11 +27,12 @@ pub extern "C" fn bench_posts_96(
     attrs: &mut [u8],
     form: &[u8],
     reply: &mut [u8],
+    changed: &mut [u64],
     field: usize,
     text: &[u8],
     times: usize,
 ) -> u8 {
-    bench::run_posts(96, chars, attrs, form, reply, field, text, times)
+    bench::run_posts(96, chars, attrs, form, reply, changed, field, text, times)
 }
 
 #[no_mangle]
@@ -28,11 +41,12 @@ pub extern "C" fn bench_keys_96(
     attrs: &mut [u8],
     form: &[u8],
     reply: &mut [u8],
+    changed: &mut [u64],
     code: u16,
     other: u16,
     times: usize,
 ) -> u8 {
-    bench::run_keys(96, chars, attrs, form, reply, code, other, times)
+    bench::run_keys(96, chars, attrs, form, reply, changed, code, other, times)
 }
 
 #[no_mangle]
@@ -41,7 +55,8 @@ pub extern "C" fn bench_blocks_96(
     attrs: &mut [u8],
     form: &[u8],
     reply: &mut [u8],
+    changed: &mut [u64],
     times: usize,
 ) -> usize {
-    bench::run_blocks(96, chars, attrs, form, reply, times)
+    bench::run_blocks(96, chars, attrs, form, reply, changed, times)
 }

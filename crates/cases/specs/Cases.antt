@@ -1,16 +1,19 @@
--- Document 01, 'Cases to prove as a single statement over one list', weights in a digits field, clears in inverse video, and the last places, on a fresh memory of `rows` rows.
+-- Document 01, 'Cases to prove as a single statement over one list', weights in a digits field, clears in inverse video, the last places, and the rows that changed, on a
+-- fresh memory of `rows` rows.
 -- Each case compares everything that its sentence names, and the whole memory where nothing or only a stretch changes. Assumes nothing.
 use Prim.Native.Nat.{ℕ, _+_, _-_, _*_, _/_, _%_}
 use mathlib.Core.Path.{_≡_}
 use mathlib.Core.Bool.{Bool, true, false, cond, _&&_}
 use mathlib.Core.List.{List, [], _∷_, _++_}
-use lib.ListN.{length, replicate, set, drop}
+use lib.ListN.{length, getD, replicate, set, drop}
 use lib.Dec.{eqb}
 use Rattle.terminal.specs.declared.Terminal.{Terminal}
-use Rattle.terminal.specs.State.{World, freshWorld}
+use Rattle.changes.specs.Sets.{rowsOf}
+use Rattle.terminal.specs.State.{World, stated, freshWorld}
 use Rattle.key.specs.Keys.{keyed}
 use Rattle.post.specs.Posts.{postedTo}
 use Rattle.host.specs.Streams.{Hosted, fed}
+use Rattle.report.specs.Reports.{reported}
 
 -- ---- comparisons
 unfoldable pub same : List ℕ → List ℕ → Bool
@@ -36,7 +39,7 @@ sameState s t =
     && agree (s .format) (t .format) && agree (s .insert) (t .insert) && agree (s .lock) (t .lock)
     && eqb (s .pending) (t .pending) && eqb (s .reading) (t .reading)
     && eqb (s .number .sign) (t .number .sign) && agree (s .number .digit) (t .number .digit) && eqb (s .number .value) (t .number .value)
-    && sameStops (s .tabs) (t .tabs)
+    && sameStops (s .tabs) (t .tabs) && eqb (s .changes .low) (t .changes .low) && eqb (s .changes .high) (t .changes .high)
 
 unfoldable pub sameMemory : World → World → Bool
 sameMemory v w = same (v .chars) (w .chars) && same (v .attrs) (w .attrs)
@@ -145,6 +148,28 @@ clears rows w bytes letter code chars attrs =
     gives rows 0 2 [] h && sameState (h .world .state) (v .state) && holdsOnly rows chars attrs (h .world)
     && eqb (k .number) 0 && sameWorld (k .world) (h .world)
 
+-- ---- the rows that changed, since a report
+
+-- the terminal after a report
+unfoldable pub reportedOn : ℕ → World → World
+reportedOn rows w = stated w (reported rows (w .state) .state)
+
+-- of `rows` rows those that are listed
+unfoldable pub listedRows : ℕ → List ℕ → List Bool
+listedRows rows [] = replicate rows false
+listedRows rows (r ∷ rs) = set (listedRows rows rs) r true
+
+-- exactly the rows that are listed are set, the first of them first, and a report tells so
+unfoldable pub tells : ℕ → List ℕ → World → Bool
+tells rows rs w =
+    let r = reported rows (w .state) in
+    sameStops (rowsOf rows (w .state .changes)) (listedRows rows rs)
+    && eqb (r .number) 0 && eqb (r .count) (length rs) && eqb (r .first) (getD rs 0 rows)
+
+-- after these host bytes, a report and those
+unfoldable pub later : ℕ → List ℕ → List ℕ → World
+later rows bytes more = fed rows (reportedOn rows (after rows bytes)) more (room rows) .world
+
 -- ---- the cases, in the document's order
 unfoldable pub documentCases : ℕ → List Bool
 documentCases rows =
@@ -245,9 +270,35 @@ placeCases rows =
     && eqb (p .number) 0 && same (p .world .chars) (set (replicate (rows * 80) 32) (rows * 80 - 1) 88) && gives rows 0 3 (88 ∷ 30 ∷ []) h)
     ∷ []
 
+-- ---- the rows that changed
+unfoldable pub changeCases : ℕ → List Bool
+changeCases rows =
+    -- a fresh terminal has all rows set, the first is 0; after a report none is, and the first is the number of rows
+    (let r = reported rows (start rows .state) in eqb (r .number) 0 && eqb (r .count) rows && eqb (r .first) 0 && tells rows [] (reportedOn rows (start rows)))
+    -- A sets its row; typed there again, after home, it sets nothing
+    ∷ tells rows (0 ∷ []) (later rows [] (65 ∷ []))
+    ∷ tells rows [] (later rows (65 ∷ []) (27 ∷ 72 ∷ 65 ∷ []))
+    -- a byte that changes a row and one that changes it back set it: A, backspace, blank
+    ∷ tells rows (0 ∷ []) (later rows [] (65 ∷ 8 ∷ 32 ∷ []))
+    -- line feed at the last row, A in the first and B in the last: those two and the last but one change, no other
+    ∷ tells rows (0 ∷ (rows - 2) ∷ (rows - 1) ∷ []) (later rows (lastRow rows) (10 ∷ []))
+    -- text at the last cell of a blank memory is written and moves up by a row: the last but one alone changes
+    ∷ tells rows ((rows - 2) ∷ []) (later rows (inLastRow rows (55 ∷ 57 ∷ [])) (88 ∷ []))
+    -- a post sets its field's row, the same post again nothing, and a refused one nothing
+    ∷ (let w = reportedOn rows (after rows oneCell) in
+    let p = postedTo rows w 0 (88 ∷ []) .world in
+    tells rows (3 ∷ []) p && tells rows [] (postedTo rows (reportedOn rows p) 0 (88 ∷ []) .world) && tells rows [] (postedTo rows w 1 (88 ∷ []) .world))
+    -- so does a text key, and a tab sets nothing
+    ∷ (let w = reportedOn rows (after rows oneCell) in
+    let k = keyed rows w (room rows) 262 .world in
+    tells rows [] k && tells rows (3 ∷ []) (keyed rows k (room rows) 88 .world))
+    -- a hard reset keeps the row that B set since the report, and adds that of A, which it clears
+    ∷ tells rows (0 ∷ 5 ∷ []) (later rows (65 ∷ []) (27 ∷ 38 ∷ 97 ∷ 53 ∷ 82 ∷ 66 ∷ 27 ∷ 69 ∷ []))
+    ∷ []
+
 -- ---- all of them, in one list
 unfoldable pub cases : ℕ → List Bool
-cases rows = documentCases rows ++ (weightCases rows ++ (clearCases rows ++ placeCases rows))
+cases rows = documentCases rows ++ (weightCases rows ++ (clearCases rows ++ (placeCases rows ++ changeCases rows)))
 
 -- the places of the cases that fail
 unfoldable pub failing : ℕ → List Bool → List ℕ

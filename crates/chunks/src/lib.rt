@@ -108,7 +108,7 @@ pub fn feed(
     }
 }
 
-// The records of 84 bytes; a rest is left.
+// The records of 84 bytes; a rest is left. Each has a line of its reply bytes, or of the rows that it changes, where that is asked for.
 pub fn show(
     p: Progress,
     page: &mut Page,
@@ -118,6 +118,7 @@ pub fn show(
     bytes: &[u8],
     reply: &mut [u8],
     is_raw: bool,
+    is_changes: bool,
 ) -> Progress
     requires { ⌜ (24 ≤ rows) × (rows ≤ 96) ⌝ }
 {
@@ -125,13 +126,23 @@ pub fn show(
     let mut at = 0;
     while 84 <= bytes.len() - at {
         let end = at + 84;
-        q = show_record(q, page, rows, chars, attrs, &bytes[at..end], reply, is_raw);
+        q = show_record(
+            q,
+            page,
+            rows,
+            chars,
+            attrs,
+            &bytes[at..end],
+            reply,
+            is_raw,
+            is_changes,
+        );
         at = end;
     }
     q
 }
 
-// One record, with the whole reply buffer for each call until it is done; raw, its reply bytes are a line.
+// One record and its line.
 fn show_record(
     p: Progress,
     page: &mut Page,
@@ -141,21 +152,109 @@ fn show_record(
     record: &[u8],
     reply: &mut [u8],
     is_raw: bool,
+    is_changes: bool,
 ) -> Progress
     requires { ⌜ (24 ≤ rows) × (rows ≤ 96) ⌝ }
 {
-    let mut out = begin(p.out, page, p.number, is_raw);
-    let mut t = p.state;
+    let out = begin(p.out, page, p.number, is_raw);
+    let r = run_record(
+        out,
+        page,
+        p.state,
+        rows,
+        chars,
+        attrs,
+        record,
+        reply,
+        is_raw,
+    );
+    let out = printing::either(r.out, page, is_raw, b"\n", b"");
+    let state = r.state;
+    let q = Progress {
+        out: out,
+        state: state,
+        number: p.number,
+        some: false,
+    };
+    if is_changes {
+        return show_changes(q, page, rows, r.answer);
+    }
+    next(q)
+}
+
+// The rows that a record changed are a line, and then none is set.
+fn show_changes(p: Progress, page: &mut Page, rows: usize, answer: u8) -> Progress
+    requires { ⌜ (24 ≤ rows) × (rows ≤ 96) ⌝ }
+{
+    let t = p.state;
+    let changes = t.changes;
+    let r = report::report_on(t, rows);
+    let out = listing::print_changes(
+        p.out,
+        page,
+        p.number,
+        answer,
+        r.count,
+        r.first,
+        changes,
+        rows,
+    );
+    let state = r.state;
+    next(Progress {
+        out: out,
+        state: state,
+        number: p.number,
+        some: false,
+    })
+}
+
+// On to the next record.
+fn next(p: Progress) -> Progress {
+    let out = p.out;
+    let state = p.state;
+    Progress {
+        out: out,
+        state: state,
+        number: sessions::next(p.number),
+        some: false,
+    }
+}
+
+// A record's answer, what is printed, and the terminal.
+struct Ran {
+    out: Output,
+    state: Terminal,
+    answer: u8,
+}
+
+// One record, with the whole reply buffer for each call until it is done; raw, its reply bytes are told.
+fn run_record(
+    out: Output,
+    page: &mut Page,
+    t: Terminal,
+    rows: usize,
+    chars: &mut [u8],
+    attrs: &mut [u8],
+    record: &[u8],
+    reply: &mut [u8],
+    is_raw: bool,
+) -> Ran
+    requires { ⌜ (24 ≤ rows) × (rows ≤ 96) ⌝ }
+{
+    let mut o = out;
+    let mut u = t;
+    let mut answer = 7;
     let mut some = false;
     let mut at = 0;
     let mut calls = record.len();
     loop {
-        let a = records::run_from_on(t, rows, chars, attrs, record, at, reply);
-        out = tell(out, page, reply, a.written, some, is_raw);
+        let a = records::run_from_on(u, rows, chars, attrs, record, at, reply);
+        o = tell(o, page, reply, a.written, some, is_raw);
         some = is_some(some, a.written);
-        t = a.state;
+        u = a.state;
         at = a.at;
-        if a.number != 7 {
+        answer = a.number;
+        if answer != 7 {
             break;
         }
         if calls == 0 {
@@ -163,11 +262,10 @@ fn show_record(
         }
         calls -= 1;
     }
-    Progress {
-        out: printing::either(out, page, is_raw, b"\n", b""),
-        state: t,
-        number: sessions::next(p.number),
-        some: false,
+    Ran {
+        out: o,
+        state: u,
+        answer: answer,
     }
 }
 

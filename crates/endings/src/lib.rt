@@ -7,12 +7,13 @@ use printing::Output;
 use printing::Page;
 use terminal::Terminal;
 
-// What a file is asked for: the lines of a session, or a terminal to be shown after session records, or after a host stream; as a picture, or raw for scripts; of a
-// terminal of 96 rows, or of 48.
+// What a file is asked for: the lines of a session; or a terminal to be shown after session records, or after a host stream, as a picture, or raw for scripts; or
+// the rows that each session record changes; of a terminal of 96 rows, or of 48.
 pub struct Way {
     pub is_session: bool,
     pub is_host: bool,
     pub is_raw: bool,
+    pub is_changes: bool,
     pub is_48: bool,
 }
 
@@ -32,7 +33,8 @@ pub fn break_off(out: Output, page: &mut Page, way: Way, name: &[u8]) -> Output 
     tell(out, page, name)
 }
 
-// The picture, or the lines for scripts; before them that the input ends inside a record, of which `rest` bytes are there.
+// The picture, or the lines for scripts; before them that the input ends inside a record, of which `rest` bytes are there. Behind the rows that the records change
+// stands nothing more.
 pub fn finish(
     out: Output,
     page: &mut Page,
@@ -47,6 +49,9 @@ pub fn finish(
     if way.is_raw {
         let out = end_replies(out, page, way.is_host, number, rest, name);
         return listing::print(out, page, t, way.rows(), chars, attrs);
+    }
+    if way.is_changes {
+        return end_lines(out, page, number, rest, name);
     }
     let out = print_rest(out, page, way.is_host, number, rest);
     picture::print(out, page, t, way.rows(), chars, attrs)
@@ -63,7 +68,7 @@ fn print_rest(out: Output, page: &mut Page, is_host: bool, number: u64, rest: us
     printing::text(out, page, b" of 84 bytes\n")
 }
 
-// The line of replies to a host stream ends; of records, that the input ends inside one is told on standard error.
+// The line of replies to a host stream ends; those to records end by themselves.
 fn end_replies(
     out: Output,
     page: &mut Page,
@@ -75,6 +80,11 @@ fn end_replies(
     if is_host {
         return printing::text(out, page, b"\n");
     }
+    end_lines(out, page, number, rest, name)
+}
+
+// That the input ends inside a record is told on standard error, behind the lines of the records.
+fn end_lines(out: Output, page: &mut Page, number: u64, rest: usize, name: &[u8]) -> Output {
     if rest == 0 {
         return out;
     }

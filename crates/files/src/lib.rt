@@ -88,10 +88,20 @@ fn start(out: Output, page: &mut Page, way: Way) -> Progress {
     let out = chunks::begin(out, page, 0, way.is_host && way.is_raw);
     Progress {
         out: out,
-        state: Terminal::fresh_state(),
+        state: begin(way),
         number: 0,
         some: false,
     }
+}
+
+// A fresh terminal, all of whose rows are set; where the rows that the records change are asked for, they have been reported.
+fn begin(way: Way) -> Terminal {
+    let fresh = Terminal::fresh_state(way.rows());
+    if way.is_changes {
+        let r = report::report_on(fresh, way.rows());
+        return r.state;
+    }
+    fresh
 }
 
 // A chunk has 96 records; only the last may be shorter. Where a read fails, or a write, the file is over.
@@ -132,7 +142,17 @@ fn run_chunk(
     if way.is_host {
         return chunks::feed(p, page, rows, chars, attrs, bytes, room, way.is_raw);
     }
-    chunks::show(p, page, rows, chars, attrs, bytes, room, way.is_raw)
+    chunks::show(
+        p,
+        page,
+        rows,
+        chars,
+        attrs,
+        bytes,
+        room,
+        way.is_raw,
+        way.is_changes,
+    )
 }
 
 fn is_over(got: Filled, out: Output) -> bool {

@@ -15,6 +15,7 @@ use Rattle.terminal.specs.State.{World, isGood, isSized, Good, Sound}
 use Rattle.terminal.specs.Refusals.{firstRefusal}
 use Rattle.terminal.proofs.Good.{sound-in}
 use Rattle.terminal.proofs.Kept.{sound-stated, acted-sound}
+use Rattle.terminal.proofs.Noted.{noted-sound}
 use Rattle.host.specs.Streams.{actionFor, readOn, steppedBy, stepped, answerTo, Hosted, hosted, fedOn, hostRefusal, fed}
 
 -- ---- one byte
@@ -31,12 +32,13 @@ read-good {rows} {t} g a b =
       pending-in = g .pending-in;
       reading-in = next-small a;
       number-in = sound-kept a b (g .number-in);
+      changes-in = g .changes-in;
     }
 
 module _ {rows : ℕ} {w : World} (s : Sound rows w) where
   pub stepped-by-sound : (a byte : ℕ) → Sound rows (steppedBy rows a byte w)
   unfolding steppedBy
-  stepped-by-sound a byte = let v = acted-sound s a (byte % 128) in sound-stated v (read-good (v .good) a (byte % 128))
+  stepped-by-sound a byte = let v = noted-sound w (acted-sound s a (byte % 128)) in sound-stated v (read-good (v .good) a (byte % 128))
 
   pub stepped-sound : (byte : ℕ) → Sound rows (stepped rows byte w)
   unfolding stepped

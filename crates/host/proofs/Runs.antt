@@ -14,18 +14,29 @@ use Rattle.cells.proofs.Search.{not-both}
 use Rattle.cells.proofs.Splice.{written-none}
 use Rattle.cursor.specs.declared.Cursor.{Cursor}
 use Rattle.cursor.specs.Cursor.{topFor, gone, cellOf, atCell, InPlace}
-use Rattle.cursor.proofs.Place.{cell-of, cell-in}
+use Rattle.cursor.proofs.Place.{cell-of, cell-in, row-in}
+use Rattle.changes.specs.declared.Changes.{Changes}
+use Rattle.changes.specs.Sets.{setOf, rowsOf, either, only}
+use Rattle.changes.specs.Differing.{differs, differingBoth}
+use Rattle.changes.proofs.Sets.{rows-set, length-rows, length-either, either-assoc}
+use Rattle.changes.proofs.Differing.{Beside, differs-then, differingBoth-then, differingBoth-chars, length-differingBoth}
+use Rattle.fields.specs.Fields.{endOfRow}
+use Rattle.looks.proofs.Patches.{patch-beside}
+use Rattle.looks.proofs.Pages.{set-beside}
 use Rattle.cells.specs.Range.{within}
 use Rattle.reading.specs.declared.Number.{Number}
 use Rattle.reading.specs.Action as Action
 use Rattle.reading.specs.Reading.{actionOf, actionAt, settled, counted, nextReading, clear}
 use Rattle.reading.proofs.Computed.{below, or-right}
-use Rattle.screen.specs.Page.{Page, page}
+use Rattle.screen.specs.Page.{page}
 use Rattle.screen.specs.Edits.{put, onward, typedFree, typed}
 use Rattle.terminal.specs.declared.Terminal.{Terminal}
-use Rattle.terminal.specs.State.{World, world, stated, placed, reread, pageOf, Sound}
+use Rattle.terminal.specs.State.{World, world, stated, placed, reread, flagged, pageOf, paged, Sound}
 use Rattle.terminal.specs.Acts.{switched, steered, stamps, acted}
+use Rattle.terminal.specs.Noted.{differingRows, noted}
 use Rattle.terminal.proofs.Kept.{good-placed}
+use Rattle.terminal.proofs.Noted.{noted-none, noted-sound}
+use Rattle.host.specs.declared.Stretch.{Stretch}
 use Rattle.host.specs.Streams.{actionFor, readOn, replyTo, steppedBy, fedOn}
 use Rattle.host.specs.Texts.{isText, typesFreely, Copied}
 use Rattle.host.specs.Sequences.{inSequence, addressed}
@@ -137,13 +148,15 @@ module _ (rows : ℕ) (w : World) (f : Free rows (w .state)) where
       ap₂ (λ (x y : Bool). typed rows x y v (pageOf w)) (f .unformatted) (f .overtypes)
       ∙ simp e
 
-  text-stepped : w .state .number ≡ clear → (byte : ℕ) → typedOn w byte ≡ steppedBy rows Action.text byte w
-  unfolding steppedBy acted readOn counted nextReading
+  text-acted : (byte : ℕ) → acted rows Action.text (byte % 128) w ≡ typedOn w byte
+  unfolding acted
+  text-acted byte = ap (paged w) (typed-on (byte % 128))
+
+  text-stepped : w .state .number ≡ clear → (byte : ℕ) → noted rows w (typedOn w byte) ≡ steppedBy rows Action.text byte w
+  unfolding steppedBy readOn counted nextReading
   text-stepped n byte =
-      let k = cellOf (w .state .cursor) in
-      let c = atCell (w .state .cursor) (k + 1) in
-      ap₂ (λ (r : ℕ) (m : Number). world (reread (placed (w .state) c) r m) (set (w .chars) k (byte % 128)) (w .attrs)) (f .reads) n
-      ∙ sym (ap (λ (p : Page). world (reread (placed (w .state) (p .cursor)) 0 clear) (p .chars) (p .attrs)) (typed-on (byte % 128)))
+      ap₂ (λ (r : ℕ) (m : Number). stated (noted rows w (typedOn w byte)) (reread (noted rows w (typedOn w byte) .state) r m)) (f .reads) n
+      ∙ sym (ap (λ (v : World). stated (noted rows w v) (reread (noted rows w v .state) 0 clear)) (text-acted byte))
 
 -- ---- a run of text, from byte i on
 module _ (rows : ℕ) (bytes : List ℕ) (i at : ℕ) (w : World) (reply : List ℕ) (s : Sound rows w) (f : Free rows (w .state)) (fits : at ≤ length reply) where
@@ -153,29 +166,40 @@ module _ (rows : ℕ) (bytes : List ℕ) (i at : ℕ) (w : World) (reply : List 
   abbrev letter : ℕ → ℕ
   letter k = getD bytes (i + (k - first)) 0 % 128
 
-  -- the world after n bytes of text
+  -- the world after n bytes of text, its rows as they were, and noted
+  abbrev plain : ℕ → World
+  plain n = world (placed (w .state) (atCell (w .state .cursor) (first + n))) (patch (w .chars) first (first + n) letter) (w .attrs)
+
   abbrev after : ℕ → World
-  after n = world (placed (w .state) (atCell (w .state .cursor) (first + n))) (patch (w .chars) first (first + n) letter) (w .attrs)
+  after n = noted rows w (plain n)
 
   after-sound : (n : ℕ) → first + n < rows * 80 → Sound rows (after n)
   after-sound n h =
-      record {
+      noted-sound w
+      (record {
         few = s .few;
         chars-long = length-patch (w .chars) first (first + n) letter ∙ s .chars-long;
         attrs-long = s .attrs-long;
         good = good-placed (s .good) (cell-in (s .good .place) h);
-      }
+      })
 
-  after-none : after 0 ≡ w
-  after-none =
+  plain-none : plain 0 ≡ w
+  plain-none =
       let e : first + 0 ≡ first = omega arith in
       ap₂ (λ (c : Cursor) (xs : List ℕ). world (placed (w .state) c) xs (w .attrs)) (ap (atCell (w .state .cursor)) e ∙ cell-same (s .good .place))
       (sym (done {f = letter} (none (sym e)) refl refl))
 
+  after-none : after 0 ≡ w
+  after-none = ap (noted rows w) plain-none ∙ noted-none w w (s .good) refl refl
+
   cleared : w .state .number ≡ clear
   cleared = s .good .number-in .cleared (λ e. omega (arith, f .reads))
 
-  module _ (n : ℕ) (h : first + n + 1 < rows * 80) where
+  -- the characters after n bytes differ from those before in the cursor's row alone
+  patch-in-row : (n : ℕ) → first + n ≤ endOfRow first → Beside rows (w .state .cursor .row) (w .chars) (patch (w .chars) first (first + n) letter)
+  patch-in-row n b = patch-beside rows (w .state .cursor .row) (w .chars) letter (row-in (s .good .place)) (s .chars-long) first (first + n) (omega arith) (omega (arith, s .good .place .col-in))
+
+  module _ (n : ℕ) (h : first + n + 1 < rows * 80) (b : first + n + 1 ≤ endOfRow first) where
     free-after : Free rows (after n .state)
     free-after =
         record {
@@ -185,17 +209,48 @@ module _ (rows : ℕ) (bytes : List ℕ) (i at : ℕ) (w : World) (reply : List 
           room = omega (arith, cell-of (w .state .cursor) (first + n));
         }
 
-    after-next : after (suc n) ≡ typedOn (after n) (getD bytes (i + n) 0)
+    -- one cell more
+    chars-next : patch (w .chars) first (first + suc n) letter ≡ set (patch (w .chars) first (first + n) letter) (cellOf (atCell (w .state .cursor) (first + n))) (getD bytes (i + n) 0 % 128)
+    chars-next =
+        let k : cellOf (atCell (w .state .cursor) (first + n)) ≡ first + n = cell-of (w .state .cursor) (first + n) in
+        let d : i + n ≡ i + (first + n - first) = omega arith in
+        let v : getD bytes (i + n) 0 % 128 ≡ letter (first + n) = ap (λ (m : ℕ). getD bytes m 0 % 128) d in
+        sym (done (up (patched {f = letter} refl (omega (arith, s .chars-long))) (omega arith) (omega (arith, s .chars-long)) v (omega arith)) refl refl)
+        ∙ ap (λ (m : ℕ). set (patch (w .chars) first (first + n) letter) m (getD bytes (i + n) 0 % 128)) (sym k)
+
+    -- the rows noted by the bytes one by one are those of all at once
+    rows-next : setOf (either (rowsOf rows (w .state .changes)) (differingRows rows w (plain (suc n)))) ≡ setOf (either (rowsOf rows (after n .state .changes)) (differingRows rows (after n) (typedOn (after n) (getD bytes (i + n) 0))))
+    unfolding differingRows
+    rows-next =
+        let c = rowsOf rows (w .state .changes) in
+        let xs = w .chars in
+        let ys = patch (w .chars) first (first + n) letter in
+        let k = cellOf (atCell (w .state .cursor) (first + n)) in
+        let at-k : k ≡ first + n = cell-of (w .state .cursor) (first + n) in
+        let v = getD bytes (i + n) 0 % 128 in
+        let zs = set ys k v in
+        let r = w .state .cursor .row in
+        let p = patched {xs = xs} {lo = first} {hi = first + n} {f = letter} refl (omega (arith, s .chars-long)) in
+        let x-y = patch-in-row n (omega arith) in
+        let y-z = set-beside rows r ys (row-in (s .good .place)) (x-y .same-long) k v (omega arith) (omega (arith, s .good .place .col-in)) in
+        let x-z : Beside rows r xs zs = rw chars-next at (patch-in-row (suc n) (omega arith)) in
+        let fresh : getD ys k 0 ≡ getD xs k 0 = p .high k (omega arith) in
+        let d = differingBoth-then (w .attrs) x-y y-z x-z (differs-then xs ys k v (p .len) fresh) in
+        let l = length-either c (differingBoth rows xs (w .attrs) ys (w .attrs)) (length-rows rows (w .state .changes)) (length-differingBoth rows xs (w .attrs) ys (w .attrs)) in
+        ap setOf
+        (ap (λ (z : List ℕ). either c (differingBoth rows xs (w .attrs) z (w .attrs))) chars-next
+        ∙ ap (either c) (sym d)
+        ∙ sym (either-assoc c (differingBoth rows xs (w .attrs) ys (w .attrs)) (differingBoth rows ys (w .attrs) zs (w .attrs)))
+        ∙ ap (λ (m : List Bool). either m (differingBoth rows ys (w .attrs) zs (w .attrs))) (sym (rows-set (either c (differingBoth rows xs (w .attrs) ys (w .attrs))) l)))
+
+    after-next : after (suc n) ≡ noted rows (after n) (typedOn (after n) (getD bytes (i + n) 0))
     after-next =
         let c = atCell (w .state .cursor) (first + n) in
         let k : cellOf c ≡ first + n = cell-of (w .state .cursor) (first + n) in
         let next : first + suc n ≡ cellOf c + 1 = omega arith in
-        let b : i + n ≡ i + (first + n - first) = omega arith in
-        let v : getD bytes (i + n) 0 % 128 ≡ letter (first + n) = ap (λ (m : ℕ). getD bytes m 0 % 128) b in
-        ap₂ (λ (d : Cursor) (xs : List ℕ). world (placed (w .state) d) xs (w .attrs))
-        (sym (cell-again (s .good .place) (omega arith) (omega arith)) ∙ ap (atCell c) next)
-        (sym (done (up (patched {f = letter} refl (omega (arith, s .chars-long))) (omega arith) (omega (arith, s .chars-long)) v (omega arith)) refl refl)
-        ∙ ap (λ (m : ℕ). set (patch (w .chars) first (first + n) letter) m (getD bytes (i + n) 0 % 128)) (sym k))
+        ap (λ (m : Changes). world (flagged (placed (w .state) (atCell (w .state .cursor) (first + suc n))) m) (patch (w .chars) first (first + suc n) letter) (w .attrs)) rows-next
+        ∙ ap₂ (λ (d : Cursor) (xs : List ℕ). world (flagged (placed (w .state) d) (setOf (either (rowsOf rows (after n .state .changes)) (differingRows rows (after n) (typedOn (after n) (getD bytes (i + n) 0)))))) xs (w .attrs))
+        (sym (cell-again (s .good .place) (omega arith) (omega arith)) ∙ ap (atCell c) next) chars-next
 
     after-turn : i + n < length bytes → isText (getD bytes (i + n) 0) ≡ true → fedOn rows (drop (i + suc n) bytes) (i + suc n) at (after (suc n)) reply ≡ fedOn rows (drop (i + n) bytes) (i + n) at (after n) reply
     unfolding replyTo
@@ -205,20 +260,26 @@ module _ (rows : ℕ) (bytes : List ℕ) (i at : ℕ) (w : World) (reply : List 
         ∙ fedOn-turn rows bytes (i + n) at (after n) reply l (sym (text-action (after n .state) (getD bytes (i + n) 0) (f .reads) e))
         (omega arith) (omega arith) (after-next ∙ text-stepped rows (after n) free-after cleared (getD bytes (i + n) 0)) (sym (written-none reply at))
 
-  text-fedOn : (n : ℕ) → first + n < rows * 80 → i + n ≤ length bytes → ((j : ℕ) → j < n → isText (getD bytes (i + j) 0) ≡ true) → fedOn rows (drop (i + n) bytes) (i + n) at (after n) reply ≡ fedOn rows (drop i bytes) i at w reply
-  text-fedOn zero h l texts =
+  text-fedOn : (n : ℕ) → first + n < rows * 80 → first + n ≤ endOfRow first → i + n ≤ length bytes → ((j : ℕ) → j < n → isText (getD bytes (i + j) 0) ≡ true) → fedOn rows (drop (i + n) bytes) (i + n) at (after n) reply ≡ fedOn rows (drop i bytes) i at w reply
+  text-fedOn zero h b l texts =
       let e : i + 0 ≡ i = omega arith in
       ap₂ (λ (j : ℕ) (v : World). fedOn rows (drop j bytes) j at v reply) e after-none
-  text-fedOn (suc n) h l texts =
-      after-turn n (omega arith) (omega arith) (texts n (omega arith))
-      ∙ text-fedOn n (omega arith) (omega arith) (λ j m. texts j (omega arith))
+  text-fedOn (suc n) h b l texts =
+      after-turn n (omega arith) (omega arith) (omega arith) (texts n (omega arith))
+      ∙ text-fedOn n (omega arith) (omega arith) (omega arith) (λ j m. texts j (omega arith))
 
   -- the copy leaves a sound world, from which the bytes after it leave what all leave from before it
-  pub text-turn : {n : ℕ} {left : List ℕ} {c : Cursor} → Copied bytes i (w .chars) first n left → c ≡ atCell (w .state .cursor) (first + n) → Sound rows (world (placed (w .state) c) left (w .attrs)) × (fedOn rows (drop (i + n) bytes) (i + n) at (world (placed (w .state) c) left (w .attrs)) reply ≡ fedOn rows (drop i bytes) i at w reply)
-  text-turn {n} {left} {c} d p =
+  pub text-turn : {r : Stretch} {left : List ℕ} {c : Cursor} {ch : Changes} → Copied bytes i (w .chars) first r left → c ≡ atCell (w .state .cursor) (first + r .count) → ch ≡ setOf (either (rowsOf rows (w .state .changes)) (only rows (w .state .cursor .row) (r .changed))) → let u = world (flagged (placed (w .state) c) ch) left (w .attrs) in Sound rows u × (fedOn rows (drop (i + r .count) bytes) (i + r .count) at u reply ≡ fedOn rows (drop i bytes) i at w reply)
+  unfolding differingRows
+  text-turn {r} {left} {c} {ch} d p q =
+      let n = r .count in
       let h : first + n < rows * 80 = omega (arith, d .cells-upto, s .chars-long) in
-      let e : world (placed (w .state) c) left (w .attrs) ≡ after n = ap₂ (λ (c : Cursor) (xs : List ℕ). world (placed (w .state) c) xs (w .attrs)) p (d .cells) in
-      (sound-by e (after-sound n h), ap (λ (v : World). fedOn rows (drop (i + n) bytes) (i + n) at v reply) e ∙ text-fedOn n h (d .bytes-upto) (d .texts))
+      let o : only rows (w .state .cursor .row) (r .changed) ≡ differingRows rows w (plain n) =
+      ap (only rows (w .state .cursor .row)) (d .told ∙ ap (differs (w .chars)) (d .cells)) ∙ sym (differingBoth-chars (w .attrs) (patch-in-row n (d .row-upto))) in
+      let e : world (flagged (placed (w .state) c) ch) left (w .attrs) ≡ after n =
+      ap (λ (m : Changes). world (flagged (placed (w .state) c) m) left (w .attrs)) (q ∙ ap (λ (l : List Bool). setOf (either (rowsOf rows (w .state .changes)) l)) o)
+      ∙ ap₂ (λ (c : Cursor) (xs : List ℕ). world (flagged (placed (w .state) c) (setOf (either (rowsOf rows (w .state .changes)) (differingRows rows w (plain n))))) xs (w .attrs)) p (d .cells) in
+      (sound-by e (after-sound n h), ap (λ (v : World). fedOn rows (drop (i + n) bytes) (i + n) at v reply) e ∙ text-fedOn n h (d .row-upto) (d .bytes-upto) (d .texts))
 
 -- ---- the actions of a sequence
 at-one : (P : ℕ → Type 0) {a : ℕ} (k : ℕ) → k ≤ a → P k → (suc k ≤ a → P a) → P a
@@ -261,5 +322,7 @@ sequence-turn rows bytes i at w reply s fits l {a} e among {c} {r} {n} o p q =
     let same : world (reread (placed (w .state) c) r n) (w .chars) (w .attrs) ≡ steppedBy rows a b w =
     ap (λ (d : Cursor). world (reread (placed (w .state) d) r n) (w .chars) (w .attrs)) o
     ∙ ap₂ (λ (r : ℕ) (n : Number). world (reread (placed (w .state) (addressed rows a (w .state .number) (w .state .cursor))) r n) (w .chars) (w .attrs)) p q
-    ∙ sym (ap (λ (v : World). stated v (readOn a (b % 128) (v .state))) (addresses rows a (b % 128) w among)) in
+    ∙ sym (ap (λ (v : World). stated v (readOn a (b % 128) (v .state)))
+    (ap (noted rows w) (addresses rows a (b % 128) w among)
+    ∙ noted-none w (stated w (placed (w .state) (addressed rows a (w .state .number) (w .state .cursor)))) (s .good) refl refl)) in
     (sound-by same (stepped-by-sound s a b), fedOn-turn rows bytes i at w reply l e (omega arith) (omega arith) same (sym (ap (written reply at) none-sent ∙ written-none reply at)))

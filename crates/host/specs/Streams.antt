@@ -11,6 +11,7 @@ use Rattle.replies.specs.Replies.{cursorReply, statusReply, blockReply}
 use Rattle.terminal.specs.declared.Terminal.{Terminal}
 use Rattle.terminal.specs.State.{World, world, stated, reread, isGood, isSized}
 use Rattle.terminal.specs.Acts.{acted}
+use Rattle.terminal.specs.Noted.{noted}
 use Rattle.terminal.specs.Refusals.{_when_, firstRefusal}
 use Rattle.host.specs.declared.HostAnswer.{HostAnswer}
 
@@ -22,10 +23,10 @@ actionFor t byte = settled (actionOf (t .reading) byte) (t .number)
 unfoldable pub readOn : ℕ → ℕ → Terminal → Terminal
 readOn a b t = reread t (nextReading a) (counted a b (t .number))
 
--- one byte
+-- one byte, the rows that it changes noted
 unfoldable pub steppedBy : ℕ → ℕ → ℕ → World → World
 steppedBy rows a byte w =
-    let v = acted rows a (byte % 128) w in
+    let v = noted rows w (acted rows a (byte % 128) w) in
     stated v (readOn a (byte % 128) (v .state))
 
 unfoldable pub stepped : ℕ → ℕ → World → World

@@ -6,10 +6,12 @@ use mathlib.Core.List.{List}
 use lib.ListN.{length, getD}
 use lib.Dec.{eqb, ltb}
 use Rattle.cells.specs.Memory.{patch}
+use Rattle.changes.specs.Differing.{differs}
 use Rattle.cursor.specs.Cursor.{cellOf}
 use Rattle.cells.specs.Range.{within}
-use Rattle.reading.specs.Action as Action
+use Rattle.fields.specs.Fields.{endOfRow}
 use Rattle.terminal.specs.declared.Terminal.{Terminal}
+use Rattle.host.specs.declared.Stretch.{Stretch}
 
 -- text is 32 to 126, a byte modulo 128
 abbrev pub isText : ℕ → Bool
@@ -20,10 +22,13 @@ unfoldable pub typesFreely : ℕ → Terminal → ℕ → Bool
 typesFreely rows t byte =
     isText byte && (eqb (t .reading) 0 && (not (t .format) && (not (t .insert) && ltb (cellOf (t .cursor) + 1) (rows * 80))))
 
--- the text bytes from, .., from + n - 1 stand in the cells cell, .., cell + n - 1, each modulo 128; the last cell is not reached
-pub record Copied (bytes : List ℕ) (from : ℕ) (chars : List ℕ) (cell n : ℕ) (left : List ℕ) : Type 0 where
-  pub some : 0 < n
-  pub bytes-upto : from + n ≤ length bytes
-  pub cells-upto : cell + n < length chars
-  pub texts : (j : ℕ) → j < n → isText (getD bytes (from + j) 0) ≡ true
-  pub cells : left ≡ patch chars cell (cell + n) (λ k. getD bytes (from + (k - cell)) 0 % 128)
+-- as many text bytes as r counts, from byte `from` on, stand in the cells from `cell` on, each modulo 128, up to the row's end at most; the last cell is not reached.
+-- r tells whether a cell changed
+pub record Copied (bytes : List ℕ) (from : ℕ) (chars : List ℕ) (cell : ℕ) (r : Stretch) (left : List ℕ) : Type 0 where
+  pub some : 0 < r .count
+  pub bytes-upto : from + r .count ≤ length bytes
+  pub cells-upto : cell + r .count < length chars
+  pub row-upto : cell + r .count ≤ endOfRow cell
+  pub texts : (j : ℕ) → j < r .count → isText (getD bytes (from + j) 0) ≡ true
+  pub told : r .changed ≡ differs chars left
+  pub cells : left ≡ patch chars cell (cell + r .count) (λ k. getD bytes (from + (k - cell)) 0 % 128)

@@ -6,11 +6,13 @@ ghost use lib.ListN.{length, getD, drop};
 ghost use lib.Dec.{leb};
 ghost use Rattle.cells.specs.Memory.{written};
 ghost use Rattle.cursor.specs.Cursor.{InPlace};
+ghost use Rattle.fields.specs.Fields.{endOfRow};
 ghost use Rattle.reading.specs.Reading.{Tabled, clear, settled, counted, nextReading, SoundNumber};
 ghost use Rattle.terminal.specs.State.{world, Sound};
 ghost use Rattle.host.specs.Streams.{actionFor, readOn, steppedBy, pendingReply, replyTo, hostLeft, fedOn, fed};
 ghost use Rattle.host.specs.Texts.{isText, typesFreely, Copied};
 ghost use Rattle.host.specs.Sequences.{reader, turned, followed};
+use changes::Changes;
 use cursor::Cursor;
 use reading::Number;
 use terminal::Terminal;
@@ -29,6 +31,12 @@ struct Reader {
     number: Number,
     reading: u8,
     at: usize,
+}
+
+// How many bytes of text were copied, and whether a cell changed.
+struct Stretch {
+    count: usize,
+    changed: bool,
 }
 
 // The action of a byte, a sign that is not first settled.
@@ -55,7 +63,7 @@ fn step(t: Terminal, rows: usize, chars: &mut [u8], attrs: &mut [u8], a: u8, byt
     ensures { λ r. ⌜ world r (now (chars .exit)) (now (attrs .exit)) ≡ steppedBy rows a byte (world t (now (chars .entry)) (now (attrs .entry))) ⌝ }
 {
     let b = byte % 128;
-    read_on(t.act(rows, chars, attrs, a, b), a, b)
+    read_on(noting::act(t, rows, chars, attrs, a, b), a, b)
 }
 
 // How many bytes the pending transfer sends.
@@ -282,22 +290,40 @@ fn types_freely(t: Terminal, rows: usize, byte: u8) -> bool
     t.cursor.row * 80 + t.cursor.col + 1 < rows * 80
 }
 
-// The run of text that begins at byte `from`, to the cells from `cell` on, up to the last but one; how many bytes.
-fn copy_text(chars: &mut [u8], bytes: &[u8], from: usize, cell: usize) -> usize
+// How many bytes a run of text from `cell` on may have: no more than are left, than there is room for, and than reach the row's end.
+fn bound(left: usize, room: usize, cell: usize) -> usize
+    requires { ⌜ (0 < left) × (0 < room) ⌝ }
+    ensures { λ r. ⌜ (0 < r) × (r ≤ left) × (r ≤ room) × (cell + r ≤ endOfRow cell) ⌝ }
+{
+    cells::least(cells::least(left, room), 80 - cell % 80)
+}
+
+// The run of text that begins at byte `from`, to the cells from `cell` on, up to the row's end or the last cell but one.
+fn copy_text(chars: &mut [u8], bytes: &[u8], from: usize, cell: usize) -> Stretch
     requires { ⌜ (from < length (now bytes)) × (cell + 1 < length (now chars)) × (isText (getD (now bytes) from 0) ≡ true) ⌝ }
     ensures { λ r. ⌜ Copied (now (bytes .entry)) from (now (chars .entry)) cell r (now (chars .exit)) ⌝ }
 {
-    let most = cells::least(bytes.len() - from, chars.len() - 1 - cell);
+    let most = bound(bytes.len() - from, chars.len() - 1 - cell, cell);
+    let mut changed = false;
     let mut n = 0;
     while n < most {
         let b = bytes[from + n];
         if !is_text(b) {
-            return n;
+            return Stretch {
+                count: n,
+                changed: changed,
+            };
+        }
+        if chars[cell + n] != b % 128 {
+            changed = true;
         }
         chars[cell + n] = b % 128;
         n += 1;
     }
-    n
+    Stretch {
+        count: n,
+        changed: changed,
+    }
 }
 
 // The bytes, up to the one whose reply does not fit.
@@ -320,9 +346,11 @@ fn feed_on(
         let b = bytes[i];
         if types_freely(u, rows, b) {
             let cell = u.cursor.row * 80 + u.cursor.col;
-            let n = copy_text(chars, bytes, i, cell);
-            u.cursor = u.cursor.go_to(cell + n);
-            i += n;
+            let got = copy_text(chars, bytes, i, cell);
+            let joined = u.changes.join(Changes::one(u.cursor.row, got.changed));
+            u.changes = joined;
+            u.cursor = u.cursor.go_to(cell + got.count);
+            i += got.count;
             continue;
         }
         let r = follow(u.cursor, u.number, u.reading, rows, &table, bytes, i);

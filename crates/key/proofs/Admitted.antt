@@ -10,14 +10,16 @@ use lib.Dec.{eqb}
 use borrow.Author.Tests.{eq-eqb, ne-eqb}
 use Rattle.cells.proofs.Patch.{eq-or}
 use Rattle.terminal.specs.State.{World, Sound}
-use Rattle.terminal.specs.Acts.{switched, steered, stamps, acted}
+use Rattle.reading.specs.Action as Action
+use Rattle.terminal.specs.Acts.{acted}
+use Rattle.terminal.specs.Noted.{noted}
 use Rattle.key.specs.Keys.{keyAction, enter, keyRefusal, Keyed, keyDone, keyed}
 use Rattle.key.proofs.Kept.{KeyReady, key-ready}
 
--- code 0 does nothing
-unlisted-leaves : (rows : ℕ) (w : World) → acted rows (keyAction 0 (w .state .insert)) (0 % 256) w ≡ w
-unfolding keyAction acted steered switched stamps
-unlisted-leaves rows w = refl
+-- code 0 is not listed
+listed-not-zero : (w : World) (code : ℕ) → (keyAction code (w .state .insert) ≡ Action.rest → ⊥) → code ≡ 0 → ⊥
+unfolding keyAction
+listed-not-zero w code h z = h (ap (λ (c : ℕ). keyAction c (w .state .insert)) z)
 
 module _ (rows : ℕ) (w : World) (code room : ℕ) {n done : ℕ} (few : rows ≤ 96) (e : n ≡ keyRefusal rows w code room) (d : done ≡ cond (eqb n 0) code 0) where
   -- the code and what its tests say, or 0
@@ -48,7 +50,7 @@ module _ (rows : ℕ) (w : World) (reply : List ℕ) (code : ℕ) {n done : ℕ}
   Left c = record {
     number = n;
     written = cond (eqb c enter) 1 0;
-    world = acted rows (keyAction c (w .state .insert)) (c % 256) w;
+    world = cond (eqb c 0) w (noted rows w (acted rows (keyAction c (w .state .insert)) (c % 256) w));
     reply = cond (eqb c enter) (set reply 0 18) reply;
   }
 
@@ -62,6 +64,8 @@ module _ (rows : ℕ) (w : World) (reply : List ℕ) (code : ℕ) {n done : ℕ}
   pub admitted-left : Left done ≡ keyed rows w reply code
   unfolding keyed keyDone
   admitted-left = elim (admitted rows w code (length reply) few e d) [
-    | inl r ↦ ap Left (r .1) ∙ rw (← e, r .0) (parted (eqb code enter) (acted rows (keyAction code (w .state .insert)) (code % 256) w))
-    | inr r ↦ ap Left (r .1) ∙ rw (← e, ne-eqb n 0 (r .0)) (ap (λ (v : World). record { number = n; written = 0; world = v; reply = reply }) (unlisted-leaves rows w))
+    | inl r ↦
+        ap Left (r .1) ∙ rw (← e, r .0, ne-eqb code 0 (listed-not-zero w code (r .2 .listed)))
+        (parted (eqb code enter) (noted rows w (acted rows (keyAction code (w .state .insert)) (code % 256) w)))
+    | inr r ↦ ap Left (r .1) ∙ rw (← e, ne-eqb n 0 (r .0)) refl
   ]

@@ -14,6 +14,7 @@ use Rattle.screen.proofs.Kept.{choose-by}
 use Rattle.terminal.specs.declared.Terminal.{Terminal}
 use Rattle.terminal.specs.State.{World, placed, moded}
 use Rattle.terminal.specs.Acts.{switched, steered, stamps, acted}
+use Rattle.terminal.specs.Noted.{noted}
 use Rattle.key.specs.Keys.{keyAction, enter, keyRefusal, Keyed, keyDone, keyed}
 
 -- t before the key, u after it: format mode, host lock, the reading state and its number, and the tab stops stay; so does the pending transfer, unless the key
@@ -80,5 +81,14 @@ pub keyed-keeps : (rows : ℕ) (w : World) (reply : List ℕ) (code : ℕ) → K
 unfolding keyed keyDone
 keyed-keeps rows w reply code =
     let P : Keyed → Type 0 = λ k. Keeps code (w .state) (k .world .state) in
-    let r = key-acted-keeps rows (code % 256) code w in
+    let q = key-acted-keeps rows (code % 256) code w in
+    let r : Keeps code (w .state) (noted rows w (acted rows (keyAction code (w .state .insert)) (code % 256) w) .state) =
+    record {
+      format-stays = q .format-stays;
+      lock-stays = q .lock-stays;
+      reading-stays = q .reading-stays;
+      number-stays = q .number-stays;
+      tabs-stay = q .tabs-stay;
+      pending-stays = q .pending-stays;
+    } in
     either P (eqb (keyRefusal rows w code (length reply)) 0) (either P (eqb code enter) r r) (same-keeps (w .state))

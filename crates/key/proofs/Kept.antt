@@ -20,6 +20,7 @@ use Rattle.terminal.specs.Refusals.{firstRefusal}
 use Rattle.terminal.proofs.Refusals.{passed}
 use Rattle.terminal.proofs.Good.{sound-in}
 use Rattle.terminal.proofs.Kept.{acted-sound}
+use Rattle.terminal.proofs.Noted.{noted-sound}
 use Rattle.key.specs.Keys.{keyAction, enter, disallows, keyRefusal, Keyed, keyDone, keyed}
 
 -- ---- a key that is not refused
@@ -54,7 +55,7 @@ module _ {rows : ℕ} {w : World} (s : Sound rows w) (reply : List ℕ) (code : 
   pub done-sound : Sound rows (keyDone rows w reply code .world)
   unfolding keyDone
   done-sound =
-      let v = acted-sound s (keyAction code (w .state .insert)) (code % 256) in
+      let v = noted-sound w (acted-sound s (keyAction code (w .state .insert)) (code % 256)) in
       either (λ (k : Keyed). Sound rows (k .world)) (eqb code enter) v v
 
   pub key-sound : Sound rows (keyed rows w reply code .world)

@@ -1,20 +1,30 @@
--- What a key leaves, from the cursor after it. Assumes nothing.
+-- What a key leaves, from the cursor after it and the rows that it changes. Assumes nothing.
 use Prim.Native.Nat.{ℕ, _%_, _<_}
-use mathlib.Core.Path.{_≡_, refl, ap}
-use mathlib.Core.Bool.{Bool, true, false, and-eq-true-iff}
+use mathlib.Core.Path.{_≡_, refl, sym, ap, ap₂, _∙_}
+use mathlib.Core.Logic.{inl, inr}
+use mathlib.Core.Bool.{Bool, true, false, cond, and-eq-true-iff}
 use mathlib.Core.List.{List}
 use native.Mathlib.Omega.{arith}
+use lib.ListN.{replicate}
 use lib.Dec.{leb, eqb}
-use borrow.Author.Tests.{ne-eqb, leb-true}
+use borrow.Author.Tests.{eq-eqb, ne-eqb, leb-true}
 use Rattle.cells.specs.Range.{within}
+use Rattle.cells.proofs.Patch.{eq-or}
+use Rattle.changes.specs.declared.Changes.{Changes}
+use Rattle.changes.specs.Sets.{setOf, either}
+use Rattle.changes.specs.Differing.{differingBoth}
+use Rattle.changes.proofs.Differing.{true-or, differingBoth-none}
 use Rattle.cursor.specs.declared.Cursor.{Cursor}
 use Rattle.screen.specs.Page.{Page, page}
 use Rattle.terminal.specs.declared.Terminal.{Terminal}
-use Rattle.terminal.specs.State.{World, world, placed}
+use Rattle.terminal.specs.State.{World, world, stated, placed, flagged, Sound}
 use Rattle.terminal.specs.Acts.{switched, steered, stamps, acted}
+use Rattle.terminal.specs.Noted.{differingRows, noted}
+use Rattle.terminal.proofs.Noted.{differingRows-none, noted-join}
 use Rattle.reading.specs.Action as Action
+use Rattle.reading.proofs.Rules.{either as cases}
 use Rattle.key.specs.Keys.{keyAction}
-use Rattle.key.specs.Pressed.{pressed}
+use Rattle.key.specs.Pressed.{pressed, edits}
 
 -- ---- a text key's code is no other key's, and not 0
 pub text-not : (k code : ℕ) → 126 < k → within 32 126 code ≡ true → eqb code k ≡ false
@@ -51,3 +61,87 @@ insert-over rows v w = go (w .state .insert) refl
     go : (b : Bool) → w .state .insert ≡ b → world (pressed 266 (w .state .cursor) (w .state)) (w .chars) (w .attrs) ≡ acted rows (keyAction 266 (w .state .insert)) v w
     go true e = rw e
     go false e = rw e
+
+-- ---- code 0 does nothing
+unlisted-leaves : (rows : ℕ) (w : World) → acted rows (keyAction 0 (w .state .insert)) (0 % 256) w ≡ w
+unfolding keyAction acted steered switched stamps
+unlisted-leaves rows w = refl
+
+-- ---- a key's rows joined to those of the state
+abbrev struck : ℕ → ℕ → World → World
+struck rows code w = acted rows (keyAction code (w .state .insert)) (code % 256) w
+
+pub pressed-left : (rows code : ℕ) (w : World) {u : World} {found joined : Changes} → ((code ≡ 0 → ⊥) → Sound rows w)
+    → u ≡ struck rows code w → found ≡ setOf (differingRows rows w (struck rows code w))
+    → ((l m : List Bool) → w .state .changes ≡ setOf l → found ≡ setOf m → joined ≡ setOf (either l m))
+    → ((n : ℕ) → found ≡ setOf (replicate n false) → joined ≡ w .state .changes)
+    → stated u (flagged (u .state) joined) ≡ cond (eqb code 0) w (noted rows w (struck rows code w))
+pressed-left rows code w {u} {found} s e f j k = elim (eq-or code 0) [
+  | inl z ↦ (
+      let o : struck rows code w ≡ w = ap (λ (c : ℕ). struck rows c w) z ∙ unlisted-leaves rows w in
+      let n : found ≡ setOf (replicate rows false) = f ∙ ap (λ (x : World). setOf (differingRows rows w x)) o ∙ ap setOf (differingRows-none rows w) in
+      rw (eq-eqb code 0 z) (ap₂ (λ (o : World) (c : Changes). stated o (flagged (o .state) c)) (e ∙ o) (k rows n)))
+  | inr z ↦ rw (ne-eqb code 0 z) (noted-join w (s z .good) e f j)
+]
+
+-- ---- the keys that write, and those that leave the memory
+pub edits-action : (code : ℕ) (insert : Bool) → (edits code ≡ Action.rest → ⊥) → edits code ≡ keyAction code insert
+unfolding edits keyAction
+edits-action code insert h = elim (true-or (within 32 126 code)) [
+  | inl t ↦ rw t
+  | inr f ↦ elim (eq-or code 264) [
+    | inl z ↦ rw z
+    | inr p ↦ elim (eq-or code 265) [
+      | inl z ↦ rw z
+      | inr q ↦ elim (eq-or code 267) [
+        | inl z ↦ rw z
+        | inr s ↦ absurd (h (rw (f, ne-eqb code 264 p, ne-eqb code 265 q, ne-eqb code 267 s)))
+      ]
+    ]
+  ]
+]
+
+pub edits-not-zero : (code : ℕ) → (edits code ≡ Action.rest → ⊥) → code ≡ 0 → ⊥
+unfolding edits
+edits-not-zero code h z = h (rw z)
+
+record Leaves (rows v : ℕ) (w : World) (a : ℕ) : Type 0 where
+  chars-stay : acted rows a v w .chars ≡ w .chars
+  attrs-stay : acted rows a v w .attrs ≡ w .attrs
+
+module _ (rows code v : ℕ) (w : World) where
+  leaves : (t d l x : Bool) → within 32 126 code ≡ t → eqb code 264 ≡ d → eqb code 265 ≡ l → eqb code 267 ≡ x
+      → cond t Action.text (cond d Action.clearDisplay (cond l Action.clearLine (cond x Action.deleteChar Action.rest))) ≡ Action.rest
+      → Leaves rows v w (keyAction code (w .state .insert))
+  unfolding keyAction acted steered switched stamps
+  leaves true d l x p q r s e = absurd (omega arith)
+  leaves false true l x p q r s e = absurd (omega arith)
+  leaves false false true x p q r s e = absurd (omega arith)
+  leaves false false false true p q r s e = absurd (omega arith)
+  leaves false false false false p q r s e =
+      let P = Leaves rows v w in
+      let still : (a : ℕ) → acted rows a v w .chars ≡ w .chars → acted rows a v w .attrs ≡ w .attrs → P a = λ a m n. record { chars-stay = m; attrs-stay = n } in
+      rw (p, q, r, s)
+      (cases P (eqb code 256) (still Action.up refl refl)
+      (cases P (eqb code 257) (still Action.down refl refl)
+      (cases P (eqb code 258) (still Action.right refl refl)
+      (cases P (eqb code 259) (still Action.left refl refl)
+      (cases P (eqb code 260) (still Action.home refl refl)
+      (cases P (eqb code 261) (still Action.homeDown refl refl)
+      (cases P (eqb code 262) (still Action.tab refl refl)
+      (cases P (eqb code 263) (still Action.backTab refl refl)
+      (cases P (eqb code 266)
+      (cases P (w .state .insert) (still Action.insertOff refl refl) (still Action.insertOn refl refl))
+      (cases P (eqb code 268) (still Action.column0 refl refl)
+      (cases P (eqb code 269) (still Action.rollUp refl refl)
+      (cases P (eqb code 270) (still Action.rollDown refl refl)
+      (cases P (eqb code 271) (still Action.nextPage refl refl)
+      (cases P (eqb code 272) (still Action.prevPage refl refl)
+      (cases P (eqb code 273) (still Action.askBlock refl refl) (still Action.rest refl refl))))))))))))))))
+
+  pub leaves-rows : {found : Changes} → found ≡ setOf (replicate rows false) → edits code ≡ Action.rest
+      → found ≡ setOf (differingRows rows w (acted rows (keyAction code (w .state .insert)) v w))
+  unfolding differingRows edits
+  leaves-rows e o =
+      let s = leaves (within 32 126 code) (eqb code 264) (eqb code 265) (eqb code 267) refl refl refl refl o in
+      e ∙ ap setOf (sym (ap₂ (differingBoth rows (w .chars) (w .attrs)) (s .chars-stay) (s .attrs-stay) ∙ differingBoth-none rows (w .chars) (w .attrs)))

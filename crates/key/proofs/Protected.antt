@@ -9,8 +9,9 @@ use borrow.Author.Tests.{eqb-true}
 use Rattle.reading.proofs.Rules.{either}
 use Rattle.screen.proofs.Kept.{choose-by}
 use Rattle.terminal.specs.State.{World}
+use Rattle.terminal.specs.Acts.{acted}
 use Rattle.terminal.specs.Protected.{Protects}
-use Rattle.terminal.proofs.Protected.{protects-same, acted-protects}
+use Rattle.terminal.proofs.Protected.{protects-same, protects-noted, acted-protects}
 use Rattle.key.specs.Keys.{keyAction, enter, keyRefusal, Keyed, keyDone, keyed}
 use Rattle.key.proofs.Kept.{key-ready}
 use Rattle.key.proofs.Keeps.{key-acted-keeps}
@@ -22,6 +23,8 @@ keyed-protects rows w reply code few on =
     let a = keyAction code (w .state .insert) in
     choose-by P (eqb (keyRefusal rows w code (length reply)) 0)
     (λ t.
-    let r = acted-protects (key-ready rows w code (length reply) few (eqb-true _ _ t) .sound) on a (code % 256) (key-acted-keeps rows (code % 256) code w .format-stays ∙ on) in
+    let r =
+    protects-noted rows w w (acted rows a (code % 256) w)
+    (acted-protects (key-ready rows w code (length reply) few (eqb-true _ _ t) .sound) on a (code % 256) (key-acted-keeps rows (code % 256) code w .format-stays ∙ on)) in
     either P (eqb code enter) r r)
     (λ _. protects-same refl refl)

@@ -8,6 +8,7 @@ use lib.Dec.{eqb}
 use Rattle.screen.proofs.Kept.{choose-both}
 use Rattle.terminal.specs.State.{World}
 use Rattle.terminal.specs.Acts.{acted}
+use Rattle.terminal.specs.Noted.{noted}
 use Rattle.key.specs.Keys.{keyAction, enter, keyRefusal, Keyed, delivered, keyDone, keyed}
 
 -- the two calls answer, leave and send the same
@@ -23,7 +24,7 @@ first-sent (x ∷ xs) (y ∷ ys) e = refl
 pub keyed-room : (rows : ℕ) (w : World) (reply other : List ℕ) (code : ℕ) → length reply ≡ length other → delivered (keyed rows w reply code) ≡ delivered (keyed rows w other code)
 unfolding keyed keyDone
 keyed-room rows w reply other code e =
-    let v = acted rows (keyAction code (w .state .insert)) (code % 256) w in
+    let v = noted rows w (acted rows (keyAction code (w .state .insert)) (code % 256) w) in
     rw (← e)
     (choose-both Alike (eqb (keyRefusal rows w code (length reply)) 0)
     (λ _. choose-both Alike (eqb code enter)

@@ -14,6 +14,7 @@ use Rattle.reading.specs.Action as Action
 use Rattle.reading.specs.Reading.{listed}
 use Rattle.terminal.specs.State.{World, world, isGood, isSized, barred}
 use Rattle.terminal.specs.Acts.{acted}
+use Rattle.terminal.specs.Noted.{noted}
 use Rattle.terminal.specs.Refusals.{_when_, firstRefusal}
 use Rattle.key.specs.declared.KeyAnswer.{KeyAnswer}
 
@@ -82,10 +83,10 @@ keyLeft r chars attrs reply = record { number = r .number; written = r .written;
 abbrev pub delivered : Keyed → Keyed
 delivered k = record { number = k .number; written = k .written; world = k .world; reply = take (k .written) (k .reply) }
 
--- the key's action; ENTER also sends byte 18
+-- the key's action, the rows that it changes noted; ENTER also sends byte 18
 unfoldable pub keyDone : ℕ → World → List ℕ → ℕ → Keyed
 keyDone rows w reply code =
-    let v = acted rows (keyAction code (w .state .insert)) (code % 256) w in
+    let v = noted rows w (acted rows (keyAction code (w .state .insert)) (code % 256) w) in
     cond (eqb code enter) (record { number = 0; written = 1; world = v; reply = set reply 0 18 })
     (record { number = 0; written = 0; world = v; reply = reply })
 

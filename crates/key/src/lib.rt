@@ -5,15 +5,18 @@ ghost use Prim.Native.Nat.{_*_, _%_, _≤_, _<_};
 ghost use lib.Dec.{eqb};
 ghost use lib.ListN.{length, set};
 ghost use Rattle.cells.specs.Range.{within};
+ghost use Rattle.changes.specs.Sets.{setOf};
 ghost use Rattle.cursor.specs.Cursor.{InPlace};
 ghost use Rattle.fields.specs.Fields.{marks, target};
 ghost use Rattle.reading.specs.Action.{rest};
 ghost use Rattle.terminal.specs.State.{world, Sound};
 ghost use Rattle.terminal.specs.Acts.{tabbedBy, backTabbedBy, acted};
+ghost use Rattle.terminal.specs.Noted.{differingRows, noted};
 ghost use Rattle.key.specs.Keys.{keyAction, enter, keyRefusal, keyLeft, keyed};
 ghost use Rattle.key.specs.Aim.{aimRefusal};
-ghost use Rattle.key.specs.Pressed.{pressed};
+ghost use Rattle.key.specs.Pressed.{pressed, edits};
 use cells::Found;
+use changes::Changes;
 use cursor::Cursor;
 use terminal::Terminal;
 
@@ -148,6 +151,43 @@ fn strike(t: Terminal, rows: usize, chars: &mut [u8], attrs: &mut [u8], code: u1
     }
 }
 
+// The action by which a key writes: text, the two clears and delete character alone do. 0 for every other code.
+fn edit_of(code: u16) -> u8
+    ensures { λ r. ⌜ r ≡ edits code ⌝ }
+{
+    if is_text(code) {
+        return reading::TEXT;
+    }
+    match code {
+        264 => reading::CLEAR_DISPLAY,
+        265 => reading::CLEAR_LINE,
+        267 => reading::DELETE_CHAR,
+        _ => reading::REST,
+    }
+}
+
+// The rows that a key will change. A code that is not listed changes none.
+fn look(t: Terminal, rows: usize, chars: &[u8], attrs: &[u8], code: u16) -> Changes
+    requires { ⌜ ((code ≡ 0 → ⊥) → Sound rows (world t (now chars) (now attrs))) ⌝ }
+    ensures { λ r. ⌜ r ≡ setOf (differingRows rows (world t (now (chars .entry)) (now (attrs .entry))) (acted rows (keyAction code (t .insert)) (code % 256) (world t (now (chars .entry)) (now (attrs .entry))))) ⌝ }
+{
+    let a = edit_of(code);
+    if a == reading::REST {
+        return Changes::none();
+    }
+    let c = t.cursor;
+    noting::look(
+        c,
+        t.format,
+        t.insert,
+        rows,
+        chars,
+        attrs,
+        a,
+        (code % 256) as u8,
+    )
+}
+
 // Insert mode after a key: 266 changes it over.
 fn switch_insert(code: u16, insert: bool) -> bool
     ensures { λ r. ⌜ r ≡ cond (eqb code 266) (not insert) insert ⌝ }
@@ -162,15 +202,17 @@ fn ask(code: u16, pending: u8) -> u8
     if code == 273 { 4 } else { pending }
 }
 
-// What a key does. The state is put together here alone, so that it is not copied from call to call.
+// What a key does; code 0 leaves all. The state is put together here alone, so that it is not copied from call to call.
 fn press(mut t: Terminal, rows: usize, chars: &mut [u8], attrs: &mut [u8], code: u16) -> Terminal
     requires { ⌜ ((code ≡ 0 → ⊥) → Sound rows (world t (now chars) (now attrs))) ⌝ }
-    ensures { λ r. ⌜ world r (now (chars .exit)) (now (attrs .exit)) ≡ acted rows (keyAction code (t .insert)) (code % 256) (world t (now (chars .entry)) (now (attrs .entry))) ⌝ }
+    ensures { λ r. ⌜ world r (now (chars .exit)) (now (attrs .exit)) ≡ cond (eqb code 0) (world t (now (chars .entry)) (now (attrs .entry))) (noted rows (world t (now (chars .entry)) (now (attrs .entry))) (acted rows (keyAction code (t .insert)) (code % 256) (world t (now (chars .entry)) (now (attrs .entry))))) ⌝ }
 {
+    let joined = t.changes.join(look(t, rows, chars, attrs, code));
     let moved = strike(t, rows, chars, attrs, code);
     t.cursor = moved;
     t.insert = switch_insert(code, t.insert);
     t.pending = ask(code, t.pending);
+    t.changes = joined;
     t
 }
 

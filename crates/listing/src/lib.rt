@@ -2,6 +2,7 @@
 pub mod words;
 
 ghost use Prim.Native.Nat.{_≤_, _<_};
+use changes::Changes;
 use printing::Output;
 use printing::Page;
 use terminal::Terminal;
@@ -21,6 +22,8 @@ pub fn print(
     let out = print_reading(out, page, t);
     let tabs = t.tabs;
     let out = print_stops(out, page, tabs);
+    let changes = t.changes;
+    let out = print_bits(out, page, changes);
     print_memory(out, page, rows, chars, attrs)
 }
 
@@ -39,6 +42,39 @@ pub fn print_part(out: Output, page: &mut Page, reply: &[u8], n: usize, is_first
         }
     }
     out
+}
+
+// The line of a record's changes: its number and its answer, how many rows changed, the first of them, or the number of rows, and each of them.
+pub fn print_changes(
+    out: Output,
+    page: &mut Page,
+    number: u64,
+    answer: u8,
+    count: u32,
+    first: u32,
+    changes: Changes,
+    rows: usize,
+) -> Output
+    requires { ⌜ rows ≤ 96 ⌝ }
+{
+    let out = printing::number(out, page, number);
+    let out = printing::named(out, page, b" ", answer as usize);
+    let out = printing::named(out, page, b" ", count as usize);
+    let out = printing::named(out, page, b" ", first as usize);
+    print_changed(out, page, changes, rows)
+}
+
+// Each row that changed, and the line's end.
+fn print_changed(out: Output, page: &mut Page, changes: Changes, rows: usize) -> Output
+    requires { ⌜ rows ≤ 96 ⌝ }
+{
+    let mut o = out;
+    for row in 0..rows {
+        if changes.has(row) {
+            o = printing::named(o, page, b" ", row);
+        }
+    }
+    printing::text(o, page, b"\n")
 }
 
 fn print_place(out: Output, page: &mut Page, t: Terminal) -> Output {
@@ -64,7 +100,27 @@ fn print_stops(out: Output, page: &mut Page, tabs: [bool; 80]) -> Output {
     for i in 0..80 {
         o = printing::either(o, page, tabs[i], b"1", b"0");
     }
-    printing::text(o, page, b"\n")
+    o
+}
+
+// The rows that changed, a bit a row, as two words, and the line's end.
+fn print_bits(out: Output, page: &mut Page, changes: Changes) -> Output {
+    let out = printing::text(out, page, b" bits ");
+    let out = print_word(out, page, changes.low);
+    let out = printing::text(out, page, b" ");
+    let out = print_word(out, page, changes.high);
+    printing::text(out, page, b"\n")
+}
+
+// A word in sixteen hexadecimal digits, the highest first.
+fn print_word(out: Output, page: &mut Page, word: u64) -> Output {
+    let mut bytes = [0u8; 8];
+    let mut rest = word;
+    for i in 0..8 {
+        bytes[7 - i] = (rest % 256) as u8;
+        rest = rest / 256;
+    }
+    printing::hex(out, page, &bytes)
 }
 
 fn print_memory(out: Output, page: &mut Page, rows: usize, chars: &[u8], attrs: &[u8]) -> Output

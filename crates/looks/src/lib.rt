@@ -231,7 +231,7 @@ fn look_ends(chars: &[u8], attrs: &[u8], rows: usize, at: usize, end: u8) -> Cha
     found.behind(row_second_differs(chars, attrs, rows, end))
 }
 
-// Where the last row begins that has two rows below it, or row `at`.
+// Where the rows end that have two rows below them, from row `at` on.
 fn end_of_inner(rows: usize, at: usize) -> usize
     requires { ⌜ (rows ≤ 96) × (at < rows) ⌝ }
     ensures { λ k. ⌜ k ≡ max at (rows - 2) * 80 ⌝ }

@@ -25,7 +25,7 @@ abbrev pub Held : World → ℕ → ℕ → Type 0
 Held w n j = holds (marks (w .attrs)) n j ≡ true
 
 module _ {rows : ℕ} {w : World} {n : ℕ} {text : List ℕ} (r : PostReady rows w n text) where
-  done-only : Only (Held w n) (pageOf w) (pageOf (done w text (r .start) .world))
+  done-only : Only (Held w n) (pageOf w) (pageOf (done rows w text (r .start) .world))
   unfolding done postedAt
   done-only =
       let ms = marks (w .attrs) in
@@ -48,7 +48,7 @@ module _ (rows : ℕ) (w : World) (n : ℕ) (text : List ℕ) (few : rows ≤ 96
   posted-only = elim (eq-or (postedTo rows w n text .number) 0) [
     | inl z ↦ (
         let r = post-ready rows w n text few z in
-        let e : postedTo rows w n text ≡ done w text (r .start) = r .leaves in
+        let e : postedTo rows w n text ≡ done rows w text (r .start) = r .leaves in
         rw e (done-only r))
     | inr z ↦ rw (post-refused rows w n text z) (only-none refl refl)
   ]

@@ -11,6 +11,7 @@ use Rattle.cells.specs.Memory.{posted}
 use Rattle.cells.specs.Range.{within}
 use Rattle.fields.specs.Fields.{marks, kindAt, fieldEnd, nthField, allowed}
 use Rattle.terminal.specs.State.{World, world, isGood, isSized, barred}
+use Rattle.terminal.specs.Noted.{noted}
 use Rattle.terminal.specs.Refusals.{_when_, firstRefusal}
 use Rattle.post.specs.declared.PostAnswer.{PostAnswer}
 
@@ -60,8 +61,8 @@ unfoldable pub postedAt : World → List ℕ → Found → World
 postedAt w text (At start) = world (w .state) (posted (w .chars) start (fieldEnd (marks (w .attrs)) start) text) (w .attrs)
 postedAt w text Nothing = w
 
--- a refusal leaves all
+-- the row that it changes is noted; a refusal leaves all
 unfoldable pub postedTo : ℕ → World → ℕ → List ℕ → Posted
 postedTo rows w field text =
     let n = postRefusal rows w field text in
-    record { number = n; world = cond (eqb n 0) (postedAt w text (nthField (marks (w .attrs)) field)) w }
+    record { number = n; world = cond (eqb n 0) (noted rows w (postedAt w text (nthField (marks (w .attrs)) field))) w }

@@ -1,7 +1,7 @@
 // What the words behind a program's name ask for.
 use endings::Way;
 
-// `files` is 0, 1, or 2 for several; `is_bad` is for a word that begins with `-`.
+// `files` is 0, 1, or 2 for several; `is_bad` is for a word that begins with `-`, and for `changes` beside `host` or `raw`.
 pub struct Asked {
     pub way: Way,
     pub files: u8,
@@ -11,6 +11,7 @@ pub struct Asked {
 pub fn find(is_session: bool) -> Asked {
     let mut is_host = false;
     let mut is_raw = false;
+    let mut is_changes = false;
     let mut is_48 = false;
     let mut is_bad = false;
     let mut files = 0;
@@ -21,7 +22,8 @@ pub fn find(is_session: bool) -> Asked {
             1 => is_raw = true,
             2 => is_host = true,
             3 => is_48 = true,
-            4 => is_bad = true,
+            4 => is_changes = true,
+            5 => is_bad = true,
             _ => files = more(files),
         }
         i += 1;
@@ -30,12 +32,13 @@ pub fn find(is_session: bool) -> Asked {
         is_session: is_session,
         is_host: is_host,
         is_raw: is_raw,
+        is_changes: is_changes,
         is_48: is_48,
     };
     Asked {
         way: way,
         files: files,
-        is_bad: is_bad,
+        is_bad: is_bad || is_changes && (is_host || is_raw),
     }
 }
 
@@ -48,12 +51,12 @@ pub fn is_file(is_session: bool, i: usize) -> bool {
     word_at(is_session, i) == 0
 }
 
-// 0 for the name of a file, 1 for `raw` and 2 for `host`, which `session` takes for files, 3 for `48`, 4 for a word that begins with `-`.
+// 0 for the name of a file, 1 for `raw`, 2 for `host` and 4 for `changes`, which `session` takes for files, 3 for `48`, 5 for a word that begins with `-`.
 fn word_at(is_session: bool, i: usize) -> u8 {
     let mut word = [0u8; 8];
     let n = os::arg(i, &mut word);
     if word[0] == b'-' {
-        return 4;
+        return 5;
     }
     if n == 2 {
         if word[0] == b'4' && word[1] == b'8' {
@@ -73,5 +76,14 @@ fn word_at(is_session: bool, i: usize) -> u8 {
             return 2;
         }
     }
-    0
+    if is_changes(word, n) { 4 } else { 0 }
+}
+
+// Whether a word of `n` bytes is `changes`.
+fn is_changes(word: [u8; 8], n: usize) -> bool {
+    if n != 7 {
+        return false;
+    }
+    let is_chan = word[0] == b'c' && word[1] == b'h' && word[2] == b'a' && word[3] == b'n';
+    is_chan && word[4] == b'g' && word[5] == b'e' && word[6] == b's'
 }

@@ -20,13 +20,13 @@ pub fn session() {
     }
 }
 
-// The program `show`: what the terminal holds after session records, or after a host stream, as a picture or raw.
+// The program `show`: what the terminal holds after session records, or after a host stream, as a picture or raw; or the rows that each session record changes.
 pub fn show() {
     let a = asked::find(false);
     if a.is_bad {
         io::write_all(
             STDERR_FILENO,
-            b"usage: show [48] [host] [raw] [FILE..]\nShows a terminal of 96 rows, or with 48 of 48 rows, after session records, or with host after a raw host stream, of standard input where no FILE is named; raw prints for scripts.\nWrite ./raw for a FILE named raw, ./-x for one named -x.\n",
+            b"usage: show [48] [host] [raw] [FILE..]\n       show [48] changes [FILE..]\nShows a terminal of 96 rows, or with 48 of 48 rows, after session records, or with host after a raw host stream, of standard input where no FILE is named; raw prints for scripts.\nWith changes it prints for each session record its number, its answer, how many rows it changed, the first of them (or the number of rows), and each of them.\nWrite ./raw for a FILE named raw, ./-x for one named -x.\n",
         );
     } else {
         run_all(a);

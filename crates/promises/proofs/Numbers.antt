@@ -19,6 +19,7 @@ use Rattle.cells.specs.Range.{within}
 use Rattle.fields.specs.Fields.{marks, kindAt, fieldEnd, nthField, target, allowed}
 use Rattle.reading.specs.Action as Action
 use Rattle.screen.proofs.Kept.{choose-by}
+use Rattle.terminal.specs.declared.Terminal.{Terminal}
 use Rattle.terminal.specs.State.{World, isGood, isSized, barred}
 use Rattle.terminal.specs.Refusals.{Refusal, _when_, firstRefusal}
 use Rattle.terminal.specs.Fresh.{freshRefusal, freshened}
@@ -29,7 +30,9 @@ use Rattle.post.specs.Posts.{fits, allFit, tooLong, misfits, postRefusal, poste
 use Rattle.host.specs.Streams.{answerTo, stepped, Hosted, hosted, fedOn, hostRefusal, fed}
 use Rattle.host.proofs.Kept.{fedOn-number}
 use Rattle.mixing.specs.Event.{run}
-use Rattle.promises.specs.Numbers.{Entry, _for_, WrongSize, NotGood, Text, Listed, NotListed, Barred, NoTarget, NotAllowed, NoRoom, NoField, TooLong, BadByte, sent, ShortOfRoom, freshTable, keyTable, postTable, hostTable, FreshNumbers, KeyNumbers, PostNumbers, HostNumbers}
+use Rattle.report.specs.Reports.{reportRefusal, reported}
+use Rattle.report.proofs.Kept.{report-number}
+use Rattle.promises.specs.Numbers.{Entry, _for_, WrongSize, NotGood, Text, Listed, NotListed, Barred, NoTarget, NotAllowed, NoRoom, NoField, TooLong, BadByte, sent, ShortOfRoom, freshTable, keyTable, postTable, hostTable, reportTable, FreshNumbers, KeyNumbers, PostNumbers, HostNumbers, ReportNumbers}
 use Rattle.promises.proofs.Tables.{Chosen, none, applies, passes, Tested, untested, tested, tested-chosen, given}
 
 -- a test that cannot be true is false
@@ -50,19 +53,23 @@ module _ (rows : ℕ) (chars attrs : List ℕ) where
   right-size e = let s = sized-in rows chars attrs e in ⊎-elim (λ p. p (s .0)) (λ p. p (s .1))
 
 -- ---- 2: the state
-module _ (rows : ℕ) (w : World) where
-  not-good : isGood rows (w .state) ≡ false → NotGood rows w
+module _ (rows : ℕ) (t : Terminal) where
+  not-good : isGood rows t ≡ false → NotGood rows t
   not-good e g = not-both (in-good g) e
 
-  is-good : isGood rows (w .state) ≡ true → ¬ NotGood rows w
-  is-good e n = n (good-in rows (w .state) e)
+  is-good : isGood rows t ≡ true → ¬ NotGood rows t
+  is-good e n = n (good-in rows t e)
+
+-- the test of the state, and those after it
+good-or : (rows : ℕ) (t : Terminal) {rs : List Refusal} {ls : List Entry} → Tested rs ls → Tested ((2 when not (isGood rows t)) ∷ rs) ((2 for NotGood rows t) ∷ ls)
+good-or rows t rest = tested (λ e. not-good rows t (not-true _ e)) (λ c. unless-true (λ e. is-good rows t e c)) rest
 
 -- ---- 1 and 2, before the other tests
 ready : (rows : ℕ) (w : World) {rs : List Refusal} {ls : List Entry} → Tested rs ls
-    → Tested ((1 when not (isSized rows (w .chars) (w .attrs))) ∷ (2 when not (isGood rows (w .state))) ∷ rs) ((1 for WrongSize rows (w .chars) (w .attrs)) ∷ (2 for NotGood rows w) ∷ ls)
+    → Tested ((1 when not (isSized rows (w .chars) (w .attrs))) ∷ (2 when not (isGood rows (w .state))) ∷ rs) ((1 for WrongSize rows (w .chars) (w .attrs)) ∷ (2 for NotGood rows (w .state)) ∷ ls)
 ready rows w rest =
     tested (λ e. wrong-size rows (w .chars) (w .attrs) (not-true _ e)) (λ c. unless-true (λ e. right-size rows (w .chars) (w .attrs) e c))
-    (tested (λ e. not-good rows w (not-true _ e)) (λ c. unless-true (λ e. is-good rows w e c)) rest)
+    (good-or rows (w .state) rest)
 
 -- ---- 3: text and listed codes
 text-in : (code : ℕ) → within 32 126 code ≡ true → Text code
@@ -132,6 +139,11 @@ pub fresh-chosen : (rows : ℕ) (chars attrs : List ℕ) → Chosen (freshTable 
 unfolding freshened freshRefusal
 fresh-chosen rows chars attrs =
     tested-chosen (tested (λ e. wrong-size rows chars attrs (not-true _ e)) (λ c. unless-true (λ e. right-size rows chars attrs e c)) untested)
+
+-- ---- a report
+pub report-chosen : (rows : ℕ) (t : Terminal) → Chosen (reportTable rows t) (reported rows t .number)
+unfolding reportRefusal
+report-chosen rows t = subst (Chosen (reportTable rows t)) (sym (report-number rows t)) (tested-chosen (good-or rows t untested))
 
 -- ---- a search that found nothing
 nothing-in : (f : Found) → isNothing f ≡ true → f ≡ Nothing
@@ -304,8 +316,8 @@ host-chosen rows w bytes reply = go (isSized rows (w .chars) (w .attrs)) (isGood
         → Chosen (hostTable rows w bytes reply)
         (cond (eqb (cond (not s) 1 (cond (not g) 2 0)) 0) (fedOn rows bytes 0 0 w reply) (hosted (cond (not s) 1 (cond (not g) 2 0)) 0 0 w reply) .number)
     go false g p q = applies (wrong-size rows (w .chars) (w .attrs) p) refl
-    go true false p q = passes (right-size rows (w .chars) (w .attrs) p) (applies (not-good rows w q) refl)
-    go true true p q = passes (right-size rows (w .chars) (w .attrs) p) (passes (is-good rows w q) (by (fedOn-number rows bytes 0 0 w reply)))
+    go true false p q = passes (right-size rows (w .chars) (w .attrs) p) (applies (not-good rows (w .state) q) refl)
+    go true true p q = passes (right-size rows (w .chars) (w .attrs) p) (passes (is-good rows (w .state) q) (by (fedOn-number rows bytes 0 0 w reply)))
 
 -- ---- the promise
 module _ (rows : ℕ) where
@@ -320,3 +332,6 @@ module _ (rows : ℕ) where
 
   pub host-numbers : HostNumbers rows
   host-numbers w bytes reply = given (host-chosen rows w bytes reply) refl
+
+  pub report-numbers : ReportNumbers rows
+  report-numbers t = given (report-chosen rows t) refl

@@ -195,7 +195,7 @@ module _ (rows : ℕ) (w : World) (r : List ℕ) where
           (λ q. let g = post-numbers rows w (numberOf r) (dataOf r) 7 .0 q in omega (arith, g .1 .1 .1 .1 .1 .1 .1))
 
 -- ---- what a host stream's first tests leave: 1, 2, or a sound world
-sound-of : (rows : ℕ) (w : World) → rows ≤ 96 → ¬ WrongSize rows (w .chars) (w .attrs) → ¬ NotGood rows w → Sound rows w
+sound-of : (rows : ℕ) (w : World) → rows ≤ 96 → ¬ WrongSize rows (w .chars) (w .attrs) → ¬ NotGood rows (w .state) → Sound rows w
 sound-of rows w few size good = sound-in few sized fine
   where
     same : (n m : ℕ) → ¬ ¬ (n ≡ m) → n ≡ m
@@ -217,8 +217,8 @@ sound-of rows w few size good = sound-in few sized fine
 
 data Began (rows : ℕ) (w : World) (bytes reply : List ℕ) : Type 0 where
   wrong : WrongSize rows (w .chars) (w .attrs) → fed rows w bytes reply .number ≡ 1 → Began rows w bytes reply
-  bad : ¬ WrongSize rows (w .chars) (w .attrs) → NotGood rows w → fed rows w bytes reply .number ≡ 2 → Began rows w bytes reply
-  ready : ¬ WrongSize rows (w .chars) (w .attrs) → ¬ NotGood rows w → Sound rows w → Began rows w bytes reply
+  bad : ¬ WrongSize rows (w .chars) (w .attrs) → NotGood rows (w .state) → fed rows w bytes reply .number ≡ 2 → Began rows w bytes reply
+  ready : ¬ WrongSize rows (w .chars) (w .attrs) → ¬ NotGood rows (w .state) → Sound rows w → Began rows w bytes reply
 
 began : (rows : ℕ) → rows ≤ 96 → (w : World) (bytes reply : List ℕ) → Began rows w bytes reply
 began rows few w bytes reply = by (host-chosen rows w bytes reply)
@@ -230,10 +230,10 @@ began rows few w bytes reply = by (host-chosen rows w bytes reply)
 
 -- ---- the numbers of a whole record
 module _ (rows : ℕ) (some : 24 ≤ rows) (few : rows ≤ 96) (w : World) (r : List ℕ) where
-  host-given : formRefusal r ≡ 0 → kindOf r ≡ 72 → Chosen ((1 for WrongSize rows (w .chars) (w .attrs)) ∷ (2 for NotGood rows w) ∷ []) (recordRan rows w r .answer)
+  host-given : formRefusal r ≡ 0 → kindOf r ≡ 72 → Chosen ((1 for WrongSize rows (w .chars) (w .attrs)) ∷ (2 for NotGood rows (w .state)) ∷ []) (recordRan rows w r .answer)
   host-given f k = by (began rows few w (dataOf r) (emptied rows))
     where
-      by : Began rows w (dataOf r) (emptied rows) → Chosen ((1 for WrongSize rows (w .chars) (w .attrs)) ∷ (2 for NotGood rows w) ∷ []) (recordRan rows w r .answer)
+      by : Began rows w (dataOf r) (emptied rows) → Chosen ((1 for WrongSize rows (w .chars) (w .attrs)) ∷ (2 for NotGood rows (w .state)) ∷ []) (recordRan rows w r .answer)
       by (wrong c e) = applies c (sym (ap (λ (x : Ran). x .answer) (ran-refused rows w r f k 1 (inl refl) e)))
       by (bad n c e) = passes n (applies c (sym (ap (λ (x : Ran). x .answer) (ran-refused rows w r f k 2 (inr refl) e))))
       by (ready n m s) = passes n (passes m (subst (Chosen []) (sym (ap (λ (x : Ran). x .answer) (host-done rows r f k w s))) none))
@@ -248,7 +248,7 @@ module _ (rows : ℕ) (some : 24 ≤ rows) (few : rows ≤ 96) (w : World) (r : 
       (λ h k. subst (Chosen (postTable rows w (numberOf r) (dataOf r))) (ap a (ran-post rows w r f (eqb-false _ _ h) (eqb-false _ _ k))) (post-chosen rows w (numberOf r) (dataOf r))))
 
   record-differ : (a b : Bool)
-      → differ (0 ∷ 12 ∷ 11 ∷ numbers (cond a ((1 for WrongSize rows (w .chars) (w .attrs)) ∷ (2 for NotGood rows w) ∷ []) (cond b (keyTable rows w (emptied rows) (numberOf r)) (postTable rows w (numberOf r) (dataOf r))))) ≡ true
+      → differ (0 ∷ 12 ∷ 11 ∷ numbers (cond a ((1 for WrongSize rows (w .chars) (w .attrs)) ∷ (2 for NotGood rows (w .state)) ∷ []) (cond b (keyTable rows w (emptied rows) (numberOf r)) (postTable rows w (numberOf r) (dataOf r))))) ≡ true
   record-differ true b = refl
   record-differ false true = refl
   record-differ false false = refl

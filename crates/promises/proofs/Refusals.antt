@@ -13,10 +13,11 @@ use Rattle.post.proofs.Kept.{post-refused, post-good}
 use Rattle.host.specs.Streams.{hosted, fedOn, hostRefusal, fed}
 use Rattle.host.proofs.Kept.{fedOn-number, fed-by, fed-good}
 use Rattle.host.proofs.Streams.{fedOn-counts, fedOn-taken, fedOn-full}
-use Rattle.promises.specs.Calls.{Call, host, key, post, called}
-use Rattle.promises.specs.Refusals.{HostKeeps, FreshRefusals, KeyRefusals, PostRefusals, HostRefusals, GoodShown, FreshGood, GoodStays}
+use Rattle.report.proofs.Kept.{report-refused, report-good}
+use Rattle.promises.specs.Calls.{Call, host, key, post, report, called}
+use Rattle.promises.specs.Refusals.{HostKeeps, FreshRefusals, KeyRefusals, PostRefusals, HostRefusals, ReportRefusals, GoodShown, FreshGood, GoodStays}
 use Rattle.promises.proofs.Tables.{one-of}
-use Rattle.promises.proofs.Numbers.{fresh-chosen, key-chosen, post-chosen}
+use Rattle.promises.proofs.Numbers.{fresh-chosen, key-chosen, post-chosen, report-chosen}
 
 good-shown : {rows : ℕ} {w : World} → Good rows (w .state) → GoodShown rows w
 good-shown {rows} {w} g =
@@ -28,6 +29,9 @@ good-shown {rows} {w} g =
 
 pub fresh-refusals : (rows : ℕ) → FreshRefusals rows
 fresh-refusals rows chars attrs = record { numbered = one-of (fresh-chosen rows chars attrs); refusal-leaves = freshened-refused rows chars attrs }
+
+pub report-refusals : (rows : ℕ) → ReportRefusals rows
+report-refusals rows t = record { numbered = one-of (report-chosen rows t); refusal-leaves = report-refused rows t }
 
 pub post-refusals : (rows : ℕ) → PostRefusals rows
 post-refusals rows w field text = record { numbered = one-of (post-chosen rows w field text); refusal-leaves = post-refused rows w field text }
@@ -86,6 +90,7 @@ module _ (rows : ℕ) (few : rows ≤ 96) where
   called-good (host bytes reply) w g = fed-good rows w bytes reply few g
   called-good (key code reply) w g = key-good rows w reply code few g
   called-good (post field text) w g = post-good rows w field text g
+  called-good report w g = report-good rows (w .state) g
 
   pub good-stays : GoodStays rows
   good-stays [] w g = good-shown g

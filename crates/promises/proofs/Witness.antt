@@ -8,24 +8,27 @@ use native.Mathlib.Omega.{arith}
 use lib.ListN.{getD}
 use lib.Dec.{eqb}
 use borrow.Author.Tests.{eqb-false}
+use Rattle.changes.specs.Sets.{rowsOf}
 use Rattle.cursor.specs.declared.Cursor.{Cursor}
 use Rattle.terminal.specs.State.{World, Sound}
 use Rattle.terminal.proofs.Good.{fresh-sound}
 use Rattle.key.specs.Keys.{keyed}
 use Rattle.post.specs.Posts.{postedTo}
 use Rattle.host.proofs.Kept.{fed-sound}
+use Rattle.report.proofs.Kept.{report-good}
 use Rattle.mixing.specs.Event.{key, post, run, answers, keysOf}
 use Rattle.mixing.specs.Mix.{Mixed, done, a-key, a-post, here, later}
 use Rattle.mixing.proofs.Mixes.{mixed-posts}
+use Rattle.cases.specs.Cases.{reportedOn}
 use Rattle.cases.proofs.Rules.{rules}
 use Rattle.promises.specs.Mixing.{Key, handled, answered, Reach}
-use Rattle.promises.specs.Form.{Events, Posts, shown, numbers, p0, p2, posting, form, lockedForm, awaited, bare, struck, keysFirst, postsFirst, posts, between, tag, Mixes, Covered, Differ, Clash, FormCovered, LockedCovered, PendingCovered, BareCovered, ReachNeeded, EnterBars, PostsKeepOrder, OrderShows}
+use Rattle.promises.specs.Form.{Events, Posts, shown, numbers, p0, p2, posting, form, reportedForm, lockedForm, awaited, bare, setFrom, struck, keysFirst, postsFirst, posts, between, tag, Mixes, Covered, RowsCovered, Differ, Clash, FormCovered, LockedCovered, PendingCovered, BareCovered, ChangesCovered, ReachNeeded, EnterBars, PostsKeepOrder, OrderShows}
 use Rattle.promises.proofs.Sparing.{every, spares, keepApart, apart-by}
 use Rattle.promises.proofs.Mixing.{mixes-agree}
 
 -- what these computations look into
 unfoldable machine : ℕ
-unfolding rules form lockedForm awaited bare
+unfolding rules reportedOn form reportedForm lockedForm awaited bare setFrom
 machine = 0
 
 -- where the runs start
@@ -33,6 +36,12 @@ module _ {rows : ℕ} (some : 24 ≤ rows) (few : rows ≤ 96) where
   form-sound : Sound rows (form rows)
   unfolding form
   form-sound = fed-sound (fresh-sound some few) _ _
+
+  reported-sound : Sound rows (reportedForm rows)
+  unfolding reportedForm reportedOn
+  reported-sound =
+      let s = form-sound in
+      record { few = few; chars-long = s .chars-long; attrs-long = s .attrs-long; good = report-good rows (form rows .state) (s .good) }
 
   locked-sound : Sound rows (lockedForm rows)
   unfolding lockedForm
@@ -104,6 +113,21 @@ both-ways s on ks ps = record { sound = s; on = on; one-mixes = keys-first ks ps
 between-ways : {rows : ℕ} {w : World} → Sound rows w → w .state .format ≡ true → Mixes rows w (keysOf between) posts (keysFirst (keysOf between) posts) between
 between-ways s on = record { sound = s; on = on; one-mixes = keys-first (keysOf between) posts; other-mixes = between-mixes }
 
+-- the same of the rows that are set
+cover-rows : {rows : ℕ} {ks : List Key} {ps : Posts} {set : List ℕ} → Sound rows (reportedForm rows) → reportedForm rows .state .format ≡ true
+    → keepApart rows ps ks (reportedForm rows) ≡ true → setFrom 0 (rowsOf rows (reportedForm rows .state .changes)) ≡ []
+    → setFrom 0 (rowsOf rows (run (handled rows) (postsFirst ks ps) (reportedForm rows) .state .changes)) ≡ set → RowsCovered rows ks ps set
+cover-rows {rows} {ks} {ps} s on a none after =
+    let m = both-ways s on ks ps in
+    let apart = apart-by rows ps ks (reportedForm rows) a in
+    record {
+      mixes = m;
+      apart = apart;
+      agree = mixes-agree rows (reportedForm rows) s on ks ps apart (keysFirst ks ps) (postsFirst ks ps) (m .one-mixes) (m .other-mixes);
+      none-before = none;
+      set-after = after;
+    }
+
 -- ---- what the conditions are for
 -- what two runs leave differs where a number in it does
 differ-by : {A : Type 0} (f : A → ℕ) {x y : A} → eqb (f x) (f y) ≡ false → ¬ (x ≡ y)
@@ -144,6 +168,10 @@ pending-covered-96 = cover (both-ways (awaited-sound (omega arith) (omega arith)
 pub bare-covered-96 : BareCovered 96
 unfolding machine every spares keepApart tally
 bare-covered-96 = cover (both-ways (bare-sound (omega arith) (omega arith)) refl _ _) refl refl refl
+
+pub changes-covered-96 : ChangesCovered 96
+unfolding machine every spares keepApart
+changes-covered-96 = cover-rows (reported-sound (omega arith) (omega arith)) refl refl refl refl
 
 pub reach-needed-96 : ReachNeeded 96
 unfolding machine
@@ -187,6 +215,10 @@ pending-covered-48 = cover (both-ways (awaited-sound (omega arith) (omega arith)
 pub bare-covered-48 : BareCovered 48
 unfolding machine every spares keepApart tally
 bare-covered-48 = cover (both-ways (bare-sound (omega arith) (omega arith)) refl _ _) refl refl refl
+
+pub changes-covered-48 : ChangesCovered 48
+unfolding machine every spares keepApart
+changes-covered-48 = cover-rows (reported-sound (omega arith) (omega arith)) refl refl refl refl
 
 pub reach-needed-48 : ReachNeeded 48
 unfolding machine

@@ -8,7 +8,7 @@ use mathlib.Core.List.{List}
 use lib.ListN.{length, getD}
 use Rattle.cells.specs.declared.Found.the-variants.{At}
 use Rattle.fields.specs.Fields.{marks, fieldEnd, nthField, holds}
-use Rattle.terminal.specs.State.{World}
+use Rattle.terminal.specs.State.{World, flagged}
 use Rattle.post.specs.Posts.{postedTo}
 
 -- w before, v after a post of the text to unprotected field number `field`
@@ -25,9 +25,9 @@ pub record Accepted (w : World) (field : ℕ) (text : List ℕ) (v : World) : Ty
   pub own-cells : (cell : ℕ) → holds (marks (w .attrs)) field cell ≡ true ↔ (start ≤ cell) × (cell < fieldEnd (marks (w .attrs)) start)
   pub others-stay : (cell : ℕ) → holds (marks (w .attrs)) field cell ≡ false → getD (v .chars) cell 0 ≡ getD (w .chars) cell 0
   pub size-stays : length (v .chars) ≡ length (w .chars)
-  -- all attributes stay, and the state, the cursor with it
+  -- all attributes stay, and the state, the cursor with it, but for the rows that changed
   pub attrs-stay : v .attrs ≡ w .attrs
-  pub state-stays : v .state ≡ w .state
+  pub state-stays : v .state ≡ flagged (w .state) (v .state .changes)
 
 abbrev pub PostWrites : ℕ → Type 0
 PostWrites rows = (w : World) (field : ℕ) (text : List ℕ) → postedTo rows w field text .number ≡ 0 → Accepted w field text (postedTo rows w field text .world)

@@ -2,16 +2,17 @@
 use Prim.Native.Nat.{ℕ}
 use Rattle.cases.specs.Cases.{CasesHold}
 use Rattle.mixing.specs.Mix.{MixedExactly}
-use Rattle.promises.specs.Refusals.{FreshRefusals, KeyRefusals, PostRefusals, HostRefusals, FreshGood, GoodStays}
-use Rattle.promises.specs.Once.{FreshOnce, KeyOnce, PostOnce, HostOnce}
+use Rattle.promises.specs.Refusals.{FreshRefusals, KeyRefusals, PostRefusals, HostRefusals, ReportRefusals, FreshGood, GoodStays}
+use Rattle.promises.specs.Once.{FreshOnce, KeyOnce, PostOnce, HostOnce, ReportOnce}
 use Rattle.promises.specs.Rooms.{KeyRooms, HostRooms, PartRooms}
-use Rattle.promises.specs.Numbers.{FreshNumbers, KeyNumbers, PostNumbers, HostNumbers}
+use Rattle.promises.specs.Numbers.{FreshNumbers, KeyNumbers, PostNumbers, HostNumbers, ReportNumbers}
 use Rattle.promises.specs.Accepted.{PostWrites}
 use Rattle.promises.specs.Protected.{ProtectedStay}
+use Rattle.promises.specs.Changes.{ByteRows, ResetRows, CallRows, SessionRows, FreshRows, ReportRows}
 use Rattle.promises.specs.Sessions.{PartNumbers, RecordNumbers, RecordRefusals, HostRecords, PartOnce, RecordOnce, LinesOnce, EndOnce, SessionLines, SessionNumbered, SessionGood, SessionInParts}
 use Rattle.promises.specs.Example.{SessionExample}
 use Rattle.promises.specs.Mixing.{MixesAgree}
-use Rattle.promises.specs.Form.{FormCovered, LockedCovered, PendingCovered, BareCovered, ReachNeeded, EnterBars, PostsKeepOrder, OrderShows}
+use Rattle.promises.specs.Form.{FormCovered, LockedCovered, PendingCovered, BareCovered, ChangesCovered, ReachNeeded, EnterBars, PostsKeepOrder, OrderShows}
 
 pub record Promises (rows : ℕ) : Type 1 where
   -- ---- 1. nothing that comes in can break it
@@ -20,6 +21,7 @@ pub record Promises (rows : ℕ) : Type 1 where
   pub key-refusals : KeyRefusals rows
   pub post-refusals : PostRefusals rows
   pub host-refusals : HostRefusals rows
+  pub report-refusals : ReportRefusals rows
   -- a good state stays good, and so the cursor never leaves display memory
   pub fresh-good : FreshGood rows
   pub good-stays : GoodStays rows
@@ -29,15 +31,24 @@ pub record Promises (rows : ℕ) : Type 1 where
   pub key-once : KeyOnce rows
   pub post-once : PostOnce rows
   pub host-once : HostOnce rows
+  pub report-once : ReportOnce rows
   -- each number is given exactly when document 01's table says
   pub fresh-numbers : FreshNumbers rows
   pub key-numbers : KeyNumbers rows
   pub post-numbers : PostNumbers rows
   pub host-numbers : HostNumbers rows
+  pub report-numbers : ReportNumbers rows
   -- an accepted post writes its field and nothing else
   pub post-writes : PostWrites rows
   -- while format mode stays on, no protected cell changes its character; it keeps its attribute byte too, and every cell its mark
   pub protected-stay : ProtectedStay rows
+  -- a row is set exactly when it was or has been changed, a fresh terminal has all rows set, and a report tells of them and clears them
+  pub byte-rows : ByteRows rows
+  pub reset-rows : ResetRows rows
+  pub call-rows : CallRows rows
+  pub session-rows : SessionRows rows
+  pub fresh-rows : FreshRows rows
+  pub report-rows : ReportRows rows
   -- of a lent reply buffer only the room counts
   pub key-rooms : KeyRooms rows
   pub host-rooms : HostRooms rows
@@ -68,6 +79,7 @@ pub record Promises (rows : ℕ) : Type 1 where
   pub locked-covered : LockedCovered rows
   pub pending-covered : PendingCovered rows
   pub bare-covered : BareCovered rows
+  pub changes-covered : ChangesCovered rows
   -- its conditions are needed
   pub reach-needed : ReachNeeded rows
   pub enter-bars : EnterBars rows

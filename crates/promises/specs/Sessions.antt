@@ -54,7 +54,7 @@ abbrev pub recordTable : ℕ → World → List ℕ → List Entry
 recordTable rows w r =
     (12 for ShortRecord r)
     ∷ (11 for OtherForm r)
-    ∷ cond (eqb (kindOf r) 72) ((1 for WrongSize rows (w .chars) (w .attrs)) ∷ (2 for NotGood rows w) ∷ [])
+    ∷ cond (eqb (kindOf r) 72) ((1 for WrongSize rows (w .chars) (w .attrs)) ∷ (2 for NotGood rows (w .state)) ∷ [])
     (cond (eqb (kindOf r) 75) (keyTable rows w (emptied rows) (numberOf r)) (postTable rows w (numberOf r) (dataOf r)))
 
 abbrev pub RecordNumbers : ℕ → Type 0

@@ -23,7 +23,7 @@ filled-whole xs n v e =
 
 module _ (rows : ℕ) (chars attrs : List ℕ) where
   -- both memories filled, under a fresh state
-  pub reset-filled : {t : Terminal} {chars′ attrs′ : List ℕ} → length chars ≡ rows * 80 → length attrs ≡ rows * 80 → t ≡ freshState → chars′ ≡ filled chars 0 (rows * 80) 32 → attrs′ ≡ filled attrs 0 (rows * 80) 0 → world t chars′ attrs′ ≡ freshWorld rows
+  pub reset-filled : {t : Terminal} {chars′ attrs′ : List ℕ} → length chars ≡ rows * 80 → length attrs ≡ rows * 80 → t ≡ freshState rows → chars′ ≡ filled chars 0 (rows * 80) 32 → attrs′ ≡ filled attrs 0 (rows * 80) 0 → world t chars′ attrs′ ≡ freshWorld rows
   unfolding freshWorld
   reset-filled p q s x y = rw (s, x ∙ filled-whole chars (rows * 80) 32 p, y ∙ filled-whole attrs (rows * 80) 0 q)
 
@@ -32,6 +32,6 @@ module _ (rows : ℕ) (chars attrs : List ℕ) where
   unfolding freshened freshRefusal firstRefusal
   freshened-done e x = rw (e, x)
 
-  pub freshened-not : {t : Terminal} → isSized rows chars attrs ≡ false → t ≡ freshState → _≡_ {A = Freshened} (record { number = 1; world = world t chars attrs }) (freshened rows chars attrs)
+  pub freshened-not : {t : Terminal} → isSized rows chars attrs ≡ false → t ≡ freshState rows → _≡_ {A = Freshened} (record { number = 1; world = world t chars attrs }) (freshened rows chars attrs)
   unfolding freshened freshRefusal firstRefusal
   freshened-not e x = rw (e, x)

@@ -4,11 +4,13 @@ use mathlib.Core.Path.{_≡_, refl}
 use mathlib.Core.Bool.{true, false, and-eq-true-iff, not-eq-not}
 use mathlib.Core.List.{List}
 use native.Mathlib.Omega.{arith}
-use lib.ListN.{length, length-replicate}
+use lib.ListN.{length, replicate, length-replicate}
 use lib.Dec.{ltb, eqb}
 use borrow.Author.Tests.{ltb-true, eqb-true, lt-ltb, eq-eqb, ne-eqb}
+use Rattle.changes.proofs.Sets.{set-good}
 use Rattle.cursor.specs.Cursor.{isPlaced}
 use Rattle.cursor.proofs.Place.{place-in, in-place}
+use Rattle.reading.specs.Reading.{soundNumber}
 use Rattle.reading.proofs.Numbers.{sound-in as number-facts, in-sound as number-test, clear-sound}
 use Rattle.reading.proofs.Rules.{either}
 use Rattle.terminal.specs.declared.Terminal.{Terminal}
@@ -22,16 +24,18 @@ good-in rows t e =
     let a = and-eq-true-iff (isPlaced rows (t .cursor)) _ .0 e in
     let b = and-eq-true-iff (ltb (t .pending) 5) _ .0 (a .1) in
     let d = and-eq-true-iff (ltb (t .reading) 7) _ .0 (b .1) in
+    let f = and-eq-true-iff (soundNumber (t .reading) (t .number)) _ .0 (d .1) in
     record {
       place = place-in rows (t .cursor) (a .0);
       pending-in = ltb-true _ _ (b .0);
       reading-in = ltb-true _ _ (d .0);
-      number-in = number-facts _ _ (d .1);
+      number-in = number-facts _ _ (f .0);
+      changes-in = f .1;
     }
 
 pub in-good : {rows : ℕ} {t : Terminal} → Good rows t → isGood rows t ≡ true
 unfolding isGood
-in-good g = rw (in-place (g .place), lt-ltb _ _ (g .pending-in), lt-ltb _ _ (g .reading-in), number-test (g .number-in))
+in-good g = rw (in-place (g .place), lt-ltb _ _ (g .pending-in), lt-ltb _ _ (g .reading-in), number-test (g .number-in), g .changes-in)
 
 pub not-good : (rows : ℕ) (t : Terminal) → (Good rows t → ⊥) → isGood rows t ≡ false
 not-good rows t h = not-eq-not {b = false} .0 (λ e. h (good-in rows t e))
@@ -61,13 +65,14 @@ pub in-sound : {rows : ℕ} {w : World} → Sound rows w → (isSized rows (w .c
 in-sound {rows} {w} s = (in-sized rows (w .chars) (w .attrs) (s .chars-long) (s .attrs-long), in-good (s .good))
 
 -- ---- a fresh terminal
-pub fresh-good : {rows : ℕ} → 24 ≤ rows → Good rows freshState
+pub fresh-good : {rows : ℕ} → 24 ≤ rows → Good rows (freshState rows)
 fresh-good {rows} h =
     record {
       place = omega arith;
       pending-in = omega arith;
       reading-in = omega arith;
       number-in = number-facts _ _ (clear-sound 0);
+      changes-in = set-good (replicate rows true) (length-replicate rows true);
     }
 
 pub fresh-sound : {rows : ℕ} → 24 ≤ rows → rows ≤ 96 → Sound rows (freshWorld rows)

@@ -26,13 +26,13 @@ use Rattle.terminal.proofs.Good.{fresh-sound}
 -- ---- a good state with one group of its parts set
 module _ {rows : ℕ} {t : Terminal} (g : Good rows t) where
   pub good-placed : {c : Cursor} → InPlace rows c → Good rows (placed t c)
-  good-placed p = record { place = p; pending-in = g .pending-in; reading-in = g .reading-in; number-in = g .number-in }
+  good-placed p = record { place = p; pending-in = g .pending-in; reading-in = g .reading-in; number-in = g .number-in; changes-in = g .changes-in }
 
   pub good-moded : (format insert lock : Bool) {n : ℕ} → n < 5 → Good rows (moded t format insert lock n)
-  good-moded format insert lock p = record { place = g .place; pending-in = p; reading-in = g .reading-in; number-in = g .number-in }
+  good-moded format insert lock p = record { place = g .place; pending-in = p; reading-in = g .reading-in; number-in = g .number-in; changes-in = g .changes-in }
 
   pub good-stopped : (tabs : List Bool) → Good rows (stopped t tabs)
-  good-stopped tabs = record { place = g .place; pending-in = g .pending-in; reading-in = g .reading-in; number-in = g .number-in }
+  good-stopped tabs = record { place = g .place; pending-in = g .pending-in; reading-in = g .reading-in; number-in = g .number-in; changes-in = g .changes-in }
 
   -- ---- modes, pending transfers and tab stops
   pub switched-good : (a : ℕ) → Good rows (switched a t)

@@ -23,4 +23,4 @@ freshRefusal rows chars attrs = firstRefusal ((1 when not (isSized rows chars at
 unfoldable pub freshened : ℕ → List ℕ → List ℕ → Freshened
 freshened rows chars attrs =
     let n = freshRefusal rows chars attrs in
-    record { number = n; world = cond (eqb n 0) (freshWorld rows) (world freshState chars attrs) }
+    record { number = n; world = cond (eqb n 0) (freshWorld rows) (world (freshState rows) chars attrs) }

@@ -10,10 +10,11 @@ ghost use Rattle.screen.specs.Edits.{homed, homedDown, lineFed, typed, displayC
 ghost use Rattle.terminal.specs.State.{world, stated, placed, stopped, pageOf, paged, freshState, freshWorld, isGood, isSized, Sound, barred};
 ghost use Rattle.terminal.specs.Fresh.{freshLeft, freshened};
 ghost use Rattle.terminal.specs.Acts.{formatted, inserting, locked, asking, softlyReset, tabSet, switched, tabbedBy, backTabbedBy, steered, stamps, stamped, acted};
+use changes::Changes;
 use cursor::Cursor;
 use reading::Number;
 
-// The state. `pending` is 0 none, 1 absolute cursor, 2 window cursor, 3 status, 4 block; `reading` is the reading state, 0 to 6.
+// The state. `pending` is 0 none, 1 absolute cursor, 2 window cursor, 3 status, 4 block; `reading` is the reading state, 0 to 6; `changes` has the rows that changed.
 pub struct Terminal {
     pub cursor: Cursor,
     pub format: bool,
@@ -23,13 +24,16 @@ pub struct Terminal {
     pub reading: u8,
     pub number: Number,
     pub tabs: [bool; 80],
+    pub changes: Changes,
 }
 
 impl Terminal {
-    // A fresh state: all 0 and off.
-    pub fn fresh_state() -> Terminal
-        ensures { λ r. ⌜ r ≡ freshState ⌝ }
+    // A fresh state: all 0 and off, all rows set.
+    pub fn fresh_state(rows: usize) -> Terminal
+        requires { ⌜ rows ≤ 96 ⌝ }
+        ensures { λ r. ⌜ r ≡ freshState rows ⌝ }
     {
+        let changes = Changes::all(rows);
         Terminal {
             cursor: Cursor {
                 row: 0,
@@ -47,6 +51,7 @@ impl Terminal {
                 value: 0,
             },
             tabs: [false; 80],
+            changes: changes,
         }
     }
 
@@ -64,7 +69,10 @@ impl Terminal {
         if 7 <= self.reading {
             return false;
         }
-        self.number.is_sound(self.reading)
+        if !self.number.is_sound(self.reading) {
+            return false;
+        }
+        self.changes.is_good(rows)
     }
 
     // Whether host lock is on or a transfer is pending.
@@ -325,7 +333,7 @@ impl Terminal {
 }
 
 // Whether an action sets or turns a mark or sets an enhancement.
-fn is_stamp(a: u8) -> bool
+pub fn is_stamp(a: u8) -> bool
     ensures { λ r. ⌜ r ≡ stamps a ⌝ }
 {
     if cells::is_within(reading::MARK_1, reading::TURN_1, a) {
@@ -418,14 +426,14 @@ impl Terminal {
         self
     }
 
-    // Hard reset: all fresh, memory too.
+    // Hard reset: all fresh, memory too; which rows are set is for the caller to say.
     pub fn reset_hard(rows: usize, chars: &mut [u8], attrs: &mut [u8]) -> Terminal
         requires { ⌜ (rows ≤ 96) × (length (now chars) ≡ rows * 80) × (length (now attrs) ≡ rows * 80) ⌝ }
         ensures { λ r. ⌜ world r (now (chars .exit)) (now (attrs .exit)) ≡ freshWorld rows ⌝ }
     {
         cells::fill(chars, 0, rows * 80, 32);
         cells::fill(attrs, 0, rows * 80, 0);
-        Terminal::fresh_state()
+        Terminal::fresh_state(rows)
     }
 
     // What an action does; `v` is the byte below 128, or the text key's code.
@@ -477,7 +485,7 @@ pub fn fresh_on(rows: usize, chars: &mut [u8], attrs: &mut [u8]) -> FreshAnswer
     }
     FreshAnswer {
         number: 1,
-        state: Terminal::fresh_state(),
+        state: Terminal::fresh_state(rows),
     }
 }
 

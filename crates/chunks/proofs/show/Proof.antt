@@ -8,10 +8,10 @@ use Rattle.chunks.proofs.show.Statement.{statement}
 use Rattle.chunks.proofs.show.Tie as tie
 
 abbrev Inv-loop : tie.InvT-loop
-Inv-loop page₀ rows chars₀ attrs₀ bytes reply₀ is-raw q₀ at₀ page chars attrs reply q at = (at ≤ length bytes) × (length chars ≡ length chars₀) × (length attrs ≡ length attrs₀) × (length reply ≡ length reply₀)
+Inv-loop page₀ rows chars₀ attrs₀ bytes reply₀ is-raw is-changes q₀ at₀ page chars attrs reply q at = (at ≤ length bytes) × (length chars ≡ length chars₀) × (length attrs ≡ length attrs₀) × (length reply ≡ length reply₀)
 
 abbrev μ-loop : tie.MeasureT-loop
-μ-loop page₀ rows chars₀ attrs₀ bytes reply₀ is-raw q₀ at₀ page chars attrs reply q at = length bytes - at
+μ-loop page₀ rows chars₀ attrs₀ bytes reply₀ is-raw is-changes q₀ at₀ page chars attrs reply q at = length bytes - at
 
 pub show-spec : {M : Type 1} → statement M
 show-spec =

@@ -4,6 +4,8 @@ use Rattle.host.proofs.Streams.{fedOn-turn, fedOn-stop, fedOn-end}
 use Rattle.host.proofs.Kept.{stepped-by-sound, sound-by}
 use Rattle.host.proofs.Runs.{free-in, text-turn}
 use Rattle.host.proofs.Sequences.{follow-on}
+use Rattle.changes.specs.Sets.{rowsOf, only}
+use Rattle.changes.proofs.Sets.{set-rows}
 use Rattle.cursor.proofs.Place.{row-in}
 use borrow.Author.Needs.{needs}
 use borrow.Author.Tests.{not-true, not-false, leb-true, leb-false}
@@ -38,20 +40,13 @@ feed-on-spec =
     let l = c .before .before .before .before .before .before .before .loop in
     let f = free-in _ (l .u) _ (sym (c .before .before .before .before .types-freely .ensures) ∙ c .before .before .before .if1 .taken) in
     (omega (arith, c .before .before .before .before .before .before .loop-test), rw (l .inv .3 .chars-long) (f .1 .room), f .0))
-    (λ c.
-    let l = c .before .before .before .before .before .before .before .before .before .before .loop in
-    omega (arith, c .before .before .copy-text .ensures .cells-upto, l .inv .3 .chars-long, l .inv .3 .few))
+    (λ c κs. let s = c .before .before .before .before .before .before .before .before .before .before .loop .inv .3 in let r = row-in (s .good .place) in omega (arith, s .few))
     (λ c κs. search needs)
-    (λ c. omega (arith, c .before .before .before .copy-text .ensures .bytes-upto, c .before .before .before .before .before .before .before .before .before .before .before .before .before .before .before .before .before))
-    (λ c. omega (arith, c .before .before .before .copy-text .ensures .bytes-upto, c .before .before .before .copy-text .ensures .some))
-    (λ c.
-    let l = c .before .before .before .before .before .before .before .before .before .before .before .loop in
-    let a = c .before .before .before .before .before .before .before .before .before .before .before .before .before .before .before .before .before .args in
-    let w = world (l .u) (l .chars) (l .attrs) in
-    let f = free-in (a .rows) (l .u) _ (sym (c .before .before .before .before .before .before .before .before .types-freely .ensures) ∙ c .before .before .before .before .before .before .before .if1 .taken) in
-    let d = c .before .before .before .copy-text .ensures in
-    let t = text-turn (a .rows) (a .bytes .now) (l .i) (l .at) w (l .reply) (l .inv .3) (f .1) (l .inv .1) d (c .go-to .ensures) in
-    (d .bytes-upto, l .inv .1, l .inv .2, t .0, t .1 ∙ l .inv .4))
+    (λ c. let l = c .before .before .before .before .before .before .before .before .before .before .before .before .before .loop in omega (arith, c .before .before .before .before .before .copy-text .ensures .cells-upto, l .inv .3 .chars-long, l .inv .3 .few))
+    (λ c κs. search needs)
+    (λ c. omega (arith, c .before .before .before .before .before .before .before .copy-text .ensures .bytes-upto, c .before .before .before .before .before .before .before .before .before .before .before .before .before .before .before .before .before .before .before .before .before))
+    (λ c. omega (arith, c .before .before .before .before .before .before .before .copy-text .ensures .bytes-upto, c .before .before .before .before .before .before .before .copy-text .ensures .some))
+    (λ c. let l = c .before .before .before .before .before .before .before .before .before .before .before .before .before .before .before .loop in let a = c .before .before .before .before .before .before .before .before .before .before .before .before .before .before .before .before .before .before .before .before .before .args in let w = world (l .u) (l .chars) (l .attrs) in let f = free-in _ (l .u) _ (sym (c .before .before .before .before .before .before .before .before .before .before .before .before .types-freely .ensures) ∙ c .before .before .before .before .before .before .before .before .before .before .before .if1 .taken) in let d = c .before .before .before .before .before .before .before .copy-text .ensures in let r = row-in (l .inv .3 .good .place) in let ch = c .before .before .before .join .ensures .0 (rowsOf (a .rows) (l .u .changes)) (only (a .rows) (l .u .cursor .row) (c .before .before .before .before .before .before .before .copy-text .result .changed)) (set-rows (a .rows) (l .u .changes) (l .inv .3 .good .changes-in)) (c .before .before .before .before .one .ensures (a .rows) r) in let t = text-turn (a .rows) (a .bytes .now) (l .i) (l .at) w (l .reply) (l .inv .3) (f .1) (l .inv .1) d (c .before .go-to .ensures) ch in (d .bytes-upto, l .inv .1, l .inv .2, t .0, t .1 ∙ l .inv .4))
     (λ c κs.
     let l = c .before .before .before .before .before .loop in
     let g = l .inv .3 .good in

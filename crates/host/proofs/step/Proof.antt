@@ -2,6 +2,7 @@
 use Rattle.host.specs.Streams.{readOn, steppedBy}
 use Rattle.host.proofs.Kept.{sound-by}
 use Rattle.terminal.proofs.Kept.{acted-sound}
+use Rattle.terminal.proofs.Noted.{noted-sound}
 use Rattle.terminal.specs.declared.Terminal.{Terminal}
 use Rattle.terminal.specs.State.{World, world, stated}
 use Prim.Native.Nat.{_%_}
@@ -16,7 +17,7 @@ step-spec =
     tie.close
     (tie.spec
     (λ c κs. search needs)
-    (λ c κs. (sound-by (c .before .before .before .before .act .ensures) (acted-sound (c .before .before .before .before .before .before .before .before .before .pre) _ _) .good .number-in) .value-in)
+    (λ c κs. (sound-by (c .before .before .before .before .act .ensures) (noted-sound _ (acted-sound (c .before .before .before .before .before .before .before .before .before .pre) _ _)) .good .number-in) .value-in)
     (λ c. search needs)
     (λ c. search needs)
     (λ c.

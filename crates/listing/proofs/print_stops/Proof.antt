@@ -5,10 +5,10 @@ use Rattle.listing.proofs.print_stops.Statement.{statement}
 use Rattle.listing.proofs.print_stops.Tie as tie
 
 abbrev Inv-loop : tie.InvT-loop
-Inv-loop page₀ tabs o₀ i₀ t8 t9 t10 page o i = (i ≤ 80)
+Inv-loop page₀ tabs o₀ i₀ t8 t9 page o i = i ≤ 80
 
 abbrev μ-loop : tie.MeasureT-loop
-μ-loop page₀ tabs o₀ i₀ t8 t9 t10 page o i = 80 - i
+μ-loop page₀ tabs o₀ i₀ t8 t9 page o i = 80 - i
 
 pub print-stops-spec : {M : Type 1} → statement M
 print-stops-spec =
@@ -24,6 +24,4 @@ print-stops-spec =
     (λ c. search needs)
     (λ c. search needs)
     (λ c. search needs)
-    (λ c. search needs)
-    (λ c κs. search needs)
     (λ c. search needs))

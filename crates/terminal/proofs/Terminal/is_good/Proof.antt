@@ -16,4 +16,6 @@ is-good-spec =
     (λ c. rw (sym (c .before .before .before .is-placed .ensures) ∙ not-false _ (c .before .before .if1 .left), le-ltb _ 5 (c .if2 .taken)))
     (λ c. rw (sym (c .before .before .before .before .before .is-placed .ensures) ∙ not-false _ (c .before .before .before .before .if1 .left), lt-ltb _ 5 (c .before .before .if2 .left), le-ltb _ 7 (c .if3 .taken)))
     (λ c κs. search needs)
-    (λ c. rw (sym (c .before .before .before .before .before .before .is-placed .ensures) ∙ not-false _ (c .before .before .before .before .before .if1 .left), lt-ltb _ 5 (c .before .before .before .if2 .left), lt-ltb _ 7 (c .before .if3 .left)) (c .is-sound .ensures)))
+    (λ c. rw (sym (c .before .before .before .before .before .before .before .is-placed .ensures) ∙ not-false _ (c .before .before .before .before .before .before .if1 .left), lt-ltb _ 5 (c .before .before .before .before .if2 .left), lt-ltb _ 7 (c .before .before .if3 .left), sym (c .before .is-sound .ensures) ∙ not-true _ (c .if4 .taken)))
+    (λ c κs. search needs)
+    (λ c. rw (sym (c .before .before .before .before .before .before .before .before .is-placed .ensures) ∙ not-false _ (c .before .before .before .before .before .before .before .if1 .left), lt-ltb _ 5 (c .before .before .before .before .before .if2 .left), lt-ltb _ 7 (c .before .before .before .if3 .left), sym (c .before .before .is-sound .ensures) ∙ not-false _ (c .before .if4 .left)) (c .is-good .ensures)))

@@ -1,0 +1,3 @@
+-- The laws of reports.
+pub mod Kept
+pub mod Once
