@@ -1,6 +1,6 @@
 -- The laws of the searches, each proved once: how a search joins, its steps for loops, and what it finds. Assumes nothing.
 use Prim.Native.Nat.{ℕ, zero, suc, _+_, _-_, _≤_, _<_, suc-le-suc}
-use mathlib.Core.Path.{_≡_, refl, ap, sym, _∙_, subst}
+use mathlib.Core.Path.{_≡_, refl, ap, ap₂, sym, _∙_, subst}
 use mathlib.Core.Bool.{Bool, true, false, cond}
 use mathlib.Core.List.{List, [], _∷_, _++_, map}
 use mathlib.Core.Logic.{⊎-elim}
@@ -79,6 +79,18 @@ module _ {A : Type 0} where
             → cond b (suc (countOf p (xs ++ ys))) (countOf p (xs ++ ys)) ≡ cond b (suc (countOf p xs)) (countOf p xs) + countOf p ys
         go true e = omega arith
         go false e = e
+
+    -- the n-th of two lists is sought in the second where the first has at most n
+    nth-append : (xs ys : List A) (n i : ℕ) → countOf p xs ≤ n → nthOf p n i (xs ++ ys) ≡ nthOf p (n - countOf p xs) (i + length xs) ys
+    unfolding countOf nthOf
+    nth-append [] ys n i h = ap₂ (λ (m k : ℕ). nthOf p m k ys) (omega arith) (omega arith)
+    nth-append (x ∷ xs) ys n i h = go (p x) (λ m l. nth-append xs ys m (suc i) l) h
+      where
+        go : (b : Bool) → ((m : ℕ) → countOf p xs ≤ m → nthOf p m (suc i) (xs ++ ys) ≡ nthOf p (m - countOf p xs) (suc i + length xs) ys)
+            → cond b (suc (countOf p xs)) (countOf p xs) ≤ n
+            → cond b (cond (eqb n 0) (At i) (nthOf p (n - 1) (suc i) (xs ++ ys))) (nthOf p n (suc i) (xs ++ ys)) ≡ nthOf p (n - cond b (suc (countOf p xs)) (countOf p xs)) (i + suc (length xs)) ys
+        go true ih l = rw (ne-eqb n 0 (λ e. omega arith)) (ih (n - 1) (omega arith) ∙ ap₂ (λ (m k : ℕ). nthOf p m k ys) (omega arith) (omega arith))
+        go false ih l = ih n l ∙ ap (λ (k : ℕ). nthOf p (n - countOf p xs) k ys) (omega arith)
 
     -- ---- a range is cut in two: the first is that of the lower part, or of the upper where the lower has none; the last the other way round; the counts add up
     module _ (xs : List A) (lo mid hi : ℕ) (a : lo ≤ mid) (b : mid ≤ hi) (c : hi ≤ length xs) where
@@ -210,6 +222,14 @@ module _ {A : Type 0} where
       pub nth-miss : (n i : ℕ) → i < length xs → p (getD xs i d) ≡ false → nthOf p n i (drop i xs) ≡ nthOf p n (i + 1) (drop (i + 1) xs)
       nth-miss n i h t = nth-step n i h ∙ rw t
 
+      -- and past a range that has at most n
+      pub nth-past : (n i j : ℕ) → i ≤ j → j ≤ length xs → countIn p xs i j ≤ n → nthOf p n i (drop i xs) ≡ nthOf p (n - countIn p xs i j) j (drop j xs)
+      unfolding countIn
+      nth-past n i j a b h =
+          ap (nthOf p n i) (ap (drop i) (sym (take-append-drop j xs)) ∙ drop-append-le i (take j xs) (drop j xs) (omega (arith, length-take-le j xs b)))
+          ∙ nth-append (slice i j xs) (drop j xs) n i h
+          ∙ ap (λ (k : ℕ). nthOf p (n - countOf p (slice i j xs)) k (drop j xs)) (omega (arith, length-slice i j xs b))
+
 -- ---- a loop's invariant: from lo up to i nothing passes, so the search from lo is the search from i
 pub record Upto {A : Type 0} (p : A → Bool) (d : A) (xs : List A) (lo hi i : ℕ) : Type 0 where
   pub fits : hi ≤ length xs
@@ -271,11 +291,28 @@ module _ {A : Type 0} {p : A → Bool} {d : A} {xs : List A} {n : ℕ} where
   pub passed-next : {i j m l : ℕ} → Passed p d xs n i m → i < length xs → p (getD xs i d) ≡ true → (m ≡ 0 → ⊥) → i + 1 ≡ j → l ≡ m - 1 → Passed p d xs n j l
   passed-next {i} {j} {m} {l} u h t z e f = passed-move (record { same = u .same ∙ nth-pass p d xs m i h t z }) e f
 
+  pub passed-count : {i j m l : ℕ} → Passed p d xs n i m → i ≤ j → j ≤ length xs → countIn p xs i j ≤ m → l ≡ m - countIn p xs i j → Passed p d xs n j l
+  passed-count {i} {j} {m} {l} u a b h f = passed-move (record { same = u .same ∙ nth-past p d xs m i j a b h }) refl f
+
   pub passed-hit : {i m : ℕ} → Passed p d xs n i m → i < length xs → p (getD xs i d) ≡ true → m ≡ 0 → At i ≡ nthOf p n 0 xs
   passed-hit {i} {m} u h t z = sym (u .same ∙ nth-hit p d xs m i h t z)
 
   pub passed-end : {i m : ℕ} → Passed p d xs n i m → length xs ≤ i → Nothing ≡ nthOf p n 0 xs
   passed-end {i} {m} u h = sym (u .same ∙ nth-done p d xs m i h)
+
+-- ---- the same for a count: n of the cells from lo up to i pass
+pub record Counted {A : Type 0} (p : A → Bool) (d : A) (xs : List A) (lo i n : ℕ) : Type 0 where
+  pub same : n ≡ countIn p xs lo i
+
+module _ {A : Type 0} {p : A → Bool} {d : A} {xs : List A} {lo : ℕ} where
+  pub counted-start : {i n : ℕ} → i ≤ lo → n ≡ 0 → Counted p d xs lo i n
+  counted-start {i} h e = record { same = e ∙ sym (count-done p xs lo i h) }
+
+  pub counted-hit : {i j n m : ℕ} → Counted p d xs lo i n → lo ≤ i → i < length xs → p (getD xs i d) ≡ true → i + 1 ≡ j → m ≡ n + 1 → Counted p d xs lo j m
+  counted-hit {i} u a h t e f = record { same = omega (arith, u .same, count-hit p d xs lo i a h t, ap (countIn p xs lo) e) }
+
+  pub counted-miss : {i j n m : ℕ} → Counted p d xs lo i n → lo ≤ i → i < length xs → p (getD xs i d) ≡ false → i + 1 ≡ j → m ≡ n → Counted p d xs lo j m
+  counted-miss {i} u a h t e f = record { same = f ∙ u .same ∙ sym (count-miss p d xs lo i a h t) ∙ ap (countIn p xs lo) e }
 
 -- ---- the answers are right
 module _ {A : Type 0} (p : A → Bool) (d : A) (xs : List A) where
@@ -456,6 +493,11 @@ module _ {A B : Type 0} (p : B → Bool) (f : A → B) where
       ap (λ (r : Found). cond (p (f x)) (cond (eqb n 0) (At i) r) (nthOf p n (suc i) (map f xs))) (nth-map (n - 1) (suc i) xs)
       ∙ ap (cond (p (f x)) (cond (eqb n 0) (At i) (nthOf (λ a. p (f a)) (n - 1) (suc i) xs))) (nth-map n (suc i) xs)
 
+  count-walk : (xs : List A) → countOf p (map f xs) ≡ countOf (λ a. p (f a)) xs
+  unfolding countOf
+  count-walk [] = refl
+  count-walk (x ∷ xs) = ap (λ (n : ℕ). cond (p (f x)) (suc n) n) (count-walk xs)
+
   module _ (xs : List A) (lo hi : ℕ) where
     slice-map : slice lo hi (map f xs) ≡ map f (slice lo hi xs)
     slice-map = ap (drop lo) (take-map hi xs) ∙ drop-map lo (take hi xs)
@@ -467,6 +509,10 @@ module _ {A B : Type 0} (p : B → Bool) (f : A → B) where
     pub last-map : lastIn p (map f xs) lo hi ≡ lastIn (λ a. p (f a)) xs lo hi
     unfolding lastIn
     last-map = ap (lastOf p lo) slice-map ∙ last-walk lo (slice lo hi xs)
+
+    pub count-map : countIn p (map f xs) lo hi ≡ countIn (λ a. p (f a)) xs lo hi
+    unfolding countIn
+    count-map = ap (countOf p) slice-map ∙ count-walk (slice lo hi xs)
 
 -- ---- the n-th and the count are inverse
 module _ {A : Type 0} (p : A → Bool) (d : A) where

@@ -8,8 +8,8 @@ use native.Mathlib.Omega.{arith}
 use borrow.Author.Tests.{ne-eqb}
 use lib.Dec.{eqb}
 use lib.ListN.{length, getD}
-use Rattle.cells.specs.Search.{firstIn, lastIn, nthOf}
-use Rattle.cells.proofs.Search.{first-map, last-map, nth-map, first-short, last-short, else-first, else-second, Downto, down-hit, down-end}
+use Rattle.cells.specs.Search.{firstIn, lastIn, countIn, nthOf}
+use Rattle.cells.proofs.Search.{first-map, last-map, count-map, nth-map, first-short, last-short, else-first, else-second, Downto, down-hit, down-end}
 use Rattle.cells.specs.declared.Found.the-variants.{At, Nothing}
 use Rattle.fields.specs.Fields.{markOf, marks, isIn, startOfRow, markFound, kindAt, unprotected, nextStart, prevStart, nonBlank, rowUnder, rowUnderText}
 use Rattle.fields.specs.Walk.{kindAfter}
@@ -28,6 +28,10 @@ module _ (highest : ℕ) (attrs : List ℕ) where
   pub last-marks : (lo hi : ℕ) → lastIn (hasMark highest) attrs lo hi ≡ lastIn (isIn highest) (marks attrs) lo hi
   unfolding marks
   last-marks lo hi = sym (last-map (isIn highest) markOf attrs lo hi)
+
+  pub count-marks : (lo hi : ℕ) → countIn (hasMark highest) attrs lo hi ≡ countIn (isIn highest) (marks attrs) lo hi
+  unfolding marks
+  count-marks lo hi = sym (count-map (isIn highest) markOf attrs lo hi)
 
   pub nth-marks : (n : ℕ) → nthOf (hasMark highest) n 0 attrs ≡ nthOf (isIn highest) n 0 (marks attrs)
   unfolding marks

@@ -2,7 +2,7 @@
 ghost use mathlib.Core.Path.{_≡_};
 ghost use Prim.Native.Nat.{_+_, _-_, _*_, _/_, _≤_, _<_};
 ghost use lib.ListN.{length};
-ghost use Rattle.cells.specs.Search.{firstIn, lastIn};
+ghost use Rattle.cells.specs.Search.{firstIn, lastIn, countIn};
 ghost use Rattle.fields.specs.Walk.{kindAfter};
 ghost use Rattle.fields.specs.Spots.{spotOf};
 ghost use Rattle.fields.specs.Fields.{markOf, marks, isIn, kindAt, unprotected, fieldEnd, firstStart, nextStart, prevStart, nthField, target, allowed, nonBlank, rowUnderText};
@@ -61,7 +61,7 @@ fn first_spot(attrs: &[u8], from: usize, at: usize, to: usize, highest: u8) -> S
 
 // The last place from cell `from` on, before a row and a column, whose mark is 1 to `highest`.
 fn last_spot(attrs: &[u8], from: usize, to: usize, at: usize, highest: u8) -> Spot
-    requires { ⌜ (at ≤ 80) × (to * 80 + at ≤ length (now attrs)) ⌝ }
+    requires { ⌜ (at ≤ 80) × (from ≤ to * 80 + at) × (to * 80 + at ≤ length (now attrs)) ⌝ }
     ensures { λ r. ⌜ r ≡ spotOf (lastIn (isIn highest) (marks (now (attrs .entry))) from (to * 80 + at)) ⌝ }
 {
     let mut row = to;
@@ -69,10 +69,11 @@ fn last_spot(attrs: &[u8], from: usize, to: usize, at: usize, highest: u8) -> Sp
     'rows: loop {
         let start = row * 80;
         let first = less(from, start);
-        while first < col {
-            col -= 1;
-            if has_mark(attrs[start + col], highest) {
-                break 'rows Spot::In(row, col);
+        let mut left = col - first;
+        while 0 < left {
+            left -= 1;
+            if has_mark(attrs[start + first + left], highest) {
+                break 'rows Spot::In(row, first + left);
             }
         }
         if start <= from {
@@ -184,20 +185,47 @@ pub fn field_end(attrs: &[u8], cell: usize) -> usize
     end
 }
 
-// Where the unprotected field number `n` starts.
+// How many of the 16 cells from `from` on have a mark 1 to 3: a loop without a branch, which becomes vector code.
+fn count_starts(attrs: &[u8], from: usize) -> usize
+    requires { ⌜ from + 16 ≤ length (now attrs) ⌝ }
+    ensures { λ r. ⌜ r ≡ countIn (isIn 3) (marks (now (attrs .entry))) from (from + 16) ⌝ }
+{
+    let mut count = 0;
+    let mut i = 0;
+    while i < 16 {
+        if has_mark(attrs[from + i], 3) {
+            count += 1;
+        }
+        i += 1;
+    }
+    count
+}
+
+// Where the unprotected field number `n` starts: 16 cells one by one, then 16 at a time up to those that have it, and these one by one.
 pub fn nth_field(attrs: &[u8], n: usize) -> Found
     ensures { λ r. ⌜ r ≡ nthField (marks (now (attrs .entry))) n ⌝ }
 {
     let mut left = n;
     let mut i = 0;
     while i < attrs.len() {
-        if has_mark(attrs[i], 3) {
-            if left == 0 {
-                return Found::At(i);
+        let end = cells::least(i + 16, attrs.len());
+        while i < end {
+            if has_mark(attrs[i], 3) {
+                if left == 0 {
+                    return Found::At(i);
+                }
+                left -= 1;
             }
-            left -= 1;
+            i += 1;
         }
-        i += 1;
+        while 16 <= attrs.len() - i {
+            let count = count_starts(attrs, i);
+            if left < count {
+                break;
+            }
+            left -= count;
+            i += 16;
+        }
     }
     Found::Nothing
 }
