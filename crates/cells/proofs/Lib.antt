@@ -1,4 +1,5 @@
 -- The laws of byte memories.
+pub mod Choices
 pub mod Finds
 pub mod Search
 pub mod Patch

@@ -11,7 +11,7 @@ use Rattle.cells.specs.Memory.{written}
 use Rattle.reading.specs.Action as Action
 use Rattle.reading.proofs.Rules.{either}
 use Rattle.replies.proofs.Longest.{cursor-length, status-length, block-longest}
-use Rattle.screen.proofs.Kept.{choose-by}
+use Rattle.cells.proofs.Choices.{choose-by}
 use Rattle.terminal.specs.State.{World, Sound}
 use Rattle.host.specs.Streams.{actionFor, pendingReply, replyTo, answerTo, stepped, Hosted, fedOn, fed}
 use Rattle.host.proofs.Streams.{fedOn-counts, step-fits}

@@ -8,7 +8,7 @@ use lib.Dec.{leb, eqb}
 use borrow.Author.Tests.{leb-true}
 use Rattle.cells.specs.Memory.{written}
 use Rattle.cells.proofs.Splice.{length-written, take-written}
-use Rattle.screen.proofs.Kept.{choose-both}
+use Rattle.cells.proofs.Choices.{choose-both}
 use Rattle.terminal.specs.State.{World}
 use Rattle.host.specs.Streams.{stepped, answerTo, Hosted, hosted, delivered, fedOn, hostRefusal, fed}
 use Rattle.host.proofs.Streams.{step-fits}

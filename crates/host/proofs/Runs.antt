@@ -2,14 +2,13 @@
 use Prim.Native.Nat.{ℕ, zero, suc, _+_, _-_, _*_, _/_, _%_, _≤_, _<_, min, max}
 use mathlib.Core.Path.{_≡_, refl, sym, ap, ap₂, _∙_}
 use mathlib.Core.Bool.{Bool, true, false, _&&_, _||_, not, and-eq-true-iff, and-false}
-use mathlib.Core.Logic.{inl, inr}
 use mathlib.Core.List.{List, []}
 use native.Mathlib.Omega.{arith}
 use lib.ListN.{length, getD, set, drop}
-use lib.Dec.{eqb, leb, ltb}
-use borrow.Author.Tests.{eqb-true, eq-eqb, ne-eqb, ltb-true, leb-true, lt-ltb, lt-leb, not-true}
+use lib.Dec.{eqb, ltb}
+use borrow.Author.Tests.{eqb-true, eq-eqb, ne-eqb, ltb-true, lt-ltb, not-true}
 use Rattle.cells.specs.Memory.{patch, written}
-use Rattle.cells.proofs.Patch.{lt-or, eq-or, none, up, done, patched, length-patch}
+use Rattle.cells.proofs.Patch.{none, up, done, patched, length-patch}
 use Rattle.cells.proofs.Search.{not-both}
 use Rattle.cells.proofs.Splice.{written-none}
 use Rattle.cursor.specs.declared.Cursor.{Cursor}
@@ -21,8 +20,8 @@ use Rattle.changes.specs.Differing.{differs, differingBoth}
 use Rattle.changes.proofs.Sets.{rows-set, length-rows, length-either, either-assoc}
 use Rattle.changes.proofs.Differing.{Beside, differs-then, differingBoth-then, differingBoth-chars, length-differingBoth}
 use Rattle.fields.specs.Fields.{endOfRow}
-use Rattle.looks.proofs.Patches.{patch-beside}
-use Rattle.looks.proofs.Pages.{set-beside}
+use Rattle.compare.proofs.Patches.{patch-beside}
+use Rattle.compare.proofs.Rows.{set-beside}
 use Rattle.cells.specs.Range.{within}
 use Rattle.reading.specs.declared.Number.{Number}
 use Rattle.reading.specs.Action as Action
@@ -36,10 +35,12 @@ use Rattle.terminal.specs.Acts.{switched, steered, stamps, acted}
 use Rattle.terminal.specs.Noted.{differingRows, noted}
 use Rattle.terminal.proofs.Kept.{good-placed}
 use Rattle.terminal.proofs.Noted.{noted-none, noted-sound}
-use Rattle.host.specs.declared.Stretch.{Stretch}
+use Rattle.runs.specs.declared.Stretch.{Stretch}
 use Rattle.host.specs.Streams.{actionFor, readOn, replyTo, steppedBy, fedOn}
-use Rattle.host.specs.Texts.{isText, typesFreely, Copied}
-use Rattle.host.specs.Sequences.{inSequence, addressed}
+use Rattle.runs.specs.Texts.{isText, Copied}
+use Rattle.runs.proofs.Sequences.{each}
+use Rattle.host.specs.Texts.{typesFreely}
+use Rattle.runs.specs.Sequences.{inSequence, addressed}
 use Rattle.host.proofs.Answers.{reply-none}
 use Rattle.host.proofs.Kept.{sound-by, stepped-by-sound}
 use Rattle.host.proofs.Streams.{fedOn-turn}
@@ -53,11 +54,6 @@ unfolding actionFor settled actionOf
 text-action t byte z e =
     let a : actionOf (t .reading) byte ≡ Action.text = ap (λ (s : ℕ). actionOf s byte) z ∙ text-at (byte % 128) (omega arith) e in
     ap (λ (k : ℕ). settled k (t .number)) a
-
--- a run that begins with text and ends before a byte that is none has some byte
-pub begun : (bytes : List ℕ) (from n : ℕ) → isText (getD bytes from 0) ≡ true → isText (getD bytes (from + n) 0) ≡ false → 0 < n
-begun bytes from zero p q = absurd (not-both p (ap (λ (k : ℕ). isText (getD bytes k 0)) (omega arith) ∙ q))
-begun bytes from (suc n) p q = omega arith
 
 -- ---- where text goes to the cursor's cell, and the cursor right
 first-holds : {a : Bool} (b : Bool) → a ≡ true → a && b ≡ b
@@ -282,22 +278,6 @@ module _ (rows : ℕ) (bytes : List ℕ) (i at : ℕ) (w : World) (reply : List 
       (sound-by e (after-sound n h), ap (λ (v : World). fedOn rows (drop (i + n) bytes) (i + n) at v reply) e ∙ text-fedOn n h (d .row-upto) (d .bytes-upto) (d .texts))
 
 -- ---- the actions of a sequence
-at-one : (P : ℕ → Type 0) {a : ℕ} (k : ℕ) → k ≤ a → P k → (suc k ≤ a → P a) → P a
-at-one P {a} k l p q = elim (eq-or a k) [ inl e ↦ rw e p | inr h ↦ q (omega arith) ]
-
--- what holds at each of them, in their order, holds at any
-pub each : (P : ℕ → Type 0) → P Action.rest → P Action.esc → P Action.toGroup → P Action.toSet → P Action.toCursor → P Action.toEnhance → P Action.toOther → P Action.plus → P Action.minus → P Action.digit → P Action.columnOn → P Action.columnEnd → P Action.rowOn → P Action.rowEnd → P Action.windowOn → P Action.windowEnd → P Action.stay → (a : ℕ) → inSequence a ≡ true → P a
-unfolding inSequence
-each P p0 p1 p46 p47 p48 p49 p50 p51 p52 p53 p54 p55 p56 p57 p58 p59 p60 a e =
-    elim (lt-or 1 a) [
-      | inl h ↦ (
-          let x = and-eq-true-iff (leb 46 a) _ .0 (or-right (leb a 1) _ e (lt-leb a 1 h)) in
-          at-one P 46 (leb-true _ _ (x .0)) p46 (λ a46. at-one P 47 a46 p47 (λ a47. at-one P 48 a47 p48 (λ a48. at-one P 49 a48 p49 (λ a49. at-one P 50 a49 p50 (λ a50.
-          at-one P 51 a50 p51 (λ a51. at-one P 52 a51 p52 (λ a52. at-one P 53 a52 p53 (λ a53. at-one P 54 a53 p54 (λ a54. at-one P 55 a54 p55 (λ a55.
-          at-one P 56 a55 p56 (λ a56. at-one P 57 a56 p57 (λ a57. at-one P 58 a57 p58 (λ a58. at-one P 59 a58 p59 (λ a59. at-one P 60 a59 p60 (λ a60. absurd (omega (arith, leb-true a 60 (x .1)))))))))))))))))))
-      | inr h ↦ at-one P 0 (omega arith) p0 (λ a0. at-one P 1 a0 p1 (λ a1. absurd (omega arith)))
-    ]
-
 module _ (rows a v : ℕ) (w : World) where
   -- the action changes the cursor alone
   abbrev Addresses : ℕ → Type 0

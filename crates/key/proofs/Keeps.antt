@@ -10,7 +10,7 @@ use Rattle.cursor.specs.declared.Cursor.{Cursor}
 use Rattle.cells.specs.Range.{within}
 use Rattle.reading.specs.Action as Action
 use Rattle.reading.proofs.Rules.{either}
-use Rattle.screen.proofs.Kept.{choose-by}
+use Rattle.cells.proofs.Choices.{choose-by}
 use Rattle.terminal.specs.declared.Terminal.{Terminal}
 use Rattle.terminal.specs.State.{World, placed, moded}
 use Rattle.terminal.specs.Acts.{switched, steered, stamps, acted}

@@ -14,7 +14,7 @@ use Rattle.cursor.specs.Cursor.{cellOf}
 use Rattle.fields.specs.Fields.{marks, target}
 use Rattle.reading.specs.Action as Action
 use Rattle.reading.proofs.Rules.{either}
-use Rattle.screen.proofs.Kept.{choose-by}
+use Rattle.cells.proofs.Choices.{choose-by}
 use Rattle.terminal.specs.State.{World, isGood, isSized, barred, Good, Sound}
 use Rattle.terminal.specs.Refusals.{firstRefusal}
 use Rattle.terminal.proofs.Refusals.{passed}

@@ -7,7 +7,7 @@ use lib.ListN.{length}
 use lib.Dec.{eqb}
 use borrow.Author.Tests.{eqb-true}
 use Rattle.reading.proofs.Rules.{either}
-use Rattle.screen.proofs.Kept.{choose-by}
+use Rattle.cells.proofs.Choices.{choose-by}
 use Rattle.terminal.specs.State.{World}
 use Rattle.terminal.specs.Acts.{acted}
 use Rattle.terminal.specs.Protected.{Protects}

@@ -5,7 +5,7 @@ use mathlib.Core.List.{List, [], _∷_}
 use native.Mathlib.Omega.{arith}
 use lib.ListN.{length, take, set}
 use lib.Dec.{eqb}
-use Rattle.screen.proofs.Kept.{choose-both}
+use Rattle.cells.proofs.Choices.{choose-both}
 use Rattle.terminal.specs.State.{World}
 use Rattle.terminal.specs.Acts.{acted}
 use Rattle.terminal.specs.Noted.{noted}

@@ -1,33 +1,23 @@
 -- The edits of one row leave the other rows, and what each edit of a page changes. Assumes nothing.
 use Prim.Native.Nat.{ℕ, _+_, _-_, _*_, _≤_, _<_}
 use mathlib.Core.Path.{_≡_, refl, sym, ap, _∙_}
-use mathlib.Core.Bool.{Bool, true, false, cond, not}
-use mathlib.Core.Logic.{inl, inr}
+use mathlib.Core.Bool.{Bool, true, false, cond}
 use mathlib.Core.List.{List}
 use native.Mathlib.Omega.{arith}
-use lib.ListN.{length, getD, set, length-set}
-use lib.Seq.{getD-set-same, getD-set-other, set-getD}
-use lib.Dec.{eqb, ltb}
-use borrow.Author.Tests.{eqb-true, eqb-false, eq-eqb, lt-ltb, le-ltb}
-use Rattle.cells.specs.Memory.{filled, changedWhere, shiftedRight, shiftedLeft, posted, movedUp}
+use lib.ListN.{length, getD, set}
+use lib.Dec.{eqb}
+use borrow.Author.Tests.{eq-eqb, lt-ltb, le-ltb}
+use Rattle.cells.specs.Memory.{shiftedRight, movedUp}
 use Rattle.cells.proofs.Patch.{none, up, done}
-use Rattle.cells.proofs.Splice.{posted-patch}
 use Rattle.fields.specs.Fields.{endOfRow}
 use Rattle.screen.specs.Page.{Page, cell}
 use Rattle.screen.specs.Whole.{Whole}
 use Rattle.screen.specs.Edits.{scrolled, lineFed, put, onward, typedFree, markSet, enhanced}
-use Rattle.changes.specs.Differing.{differs, differingBoth}
-use Rattle.changes.proofs.Differing.{true-or, differs-same, differs-cell, Beside}
+use Rattle.changes.specs.Differing.{differingBoth}
+use Rattle.changes.proofs.Differing.{Beside}
+use Rattle.compare.proofs.Patches.{patch-beside}
+use Rattle.compare.proofs.Rows.{set-beside}
 use Rattle.looks.specs.Looks.{changed}
-use Rattle.looks.proofs.Patches.{patch-changed, patch-beside}
-
--- ---- one cell
-pub set-differs : (xs : List ℕ) (k v : ℕ) → k < length xs → not (eqb (getD xs k 0) v) ≡ differs xs (set xs k v)
-set-differs xs k v h =
-    elim (true-or (eqb (getD xs k 0) v)) [
-      | inl e ↦ ap not e ∙ sym (ap (differs xs) (sym (ap (set xs k) (eqb-true _ _ e)) ∙ set-getD xs k 0) ∙ differs-same xs)
-      | inr e ↦ ap not e ∙ sym (differs-cell xs (set xs k v) k (λ q. eqb-false _ _ e (q ∙ getD-set-same xs k v 0 h)))
-    ]
 
 -- a shift of one cell
 put-last : (insert : Bool) (xs : List ℕ) (k e v : ℕ) → k < length xs → e ≡ k + 1 → put insert xs k e v ≡ set xs k v
@@ -37,44 +27,21 @@ put-last false xs k e v h n = refl
 
 -- ---- edits within row r of a memory of n rows
 module _ (n r : ℕ) (xs : List ℕ) (here : r < n) (long : length xs ≡ n * 80) where
-  pub set-beside : (k v : ℕ) → r * 80 ≤ k → k < r * 80 + 80 → Beside n r xs (set xs k v)
-  set-beside k v a b =
-      record {
-        here = here;
-        long = long;
-        same-long = length-set xs k v ∙ long;
-        kept = λ i o. sym (getD-set-other xs k i v 0 (elim o [ inl u ↦ (λ e. omega arith) | inr u ↦ (λ e. omega arith) ]));
-      }
-
   module _ (from to : ℕ) (a : r * 80 ≤ from) (b : to ≤ r * 80 + 80) where
-    pub filled-beside : (v : ℕ) → Beside n r xs (filled xs from to v)
-    unfolding filled
-    filled-beside v = patch-beside n r xs (λ k. v) here long from to a b
-
-    pub changed-beside : (f : ℕ → ℕ) → Beside n r xs (changedWhere xs from (λ k. ltb k to) f)
-    changed-beside f = rw (← patch-changed xs from to f (omega arith)) (patch-beside n r xs (λ k. f (getD xs k 0)) here long from to a b)
-
-    pub shiftedLeft-beside : (v : ℕ) → Beside n r xs (shiftedLeft xs from to v)
-    unfolding shiftedLeft
-    shiftedLeft-beside v = patch-beside n r xs _ here long from to a b
-
     pub put-beside : (insert : Bool) (v : ℕ) → from < to → Beside n r xs (put insert xs from to v)
     unfolding put shiftedRight
     put-beside true v h = patch-beside n r xs _ here long from to a b
-    put-beside false v h = set-beside from v a (omega arith)
-
-    pub posted-beside : (text : List ℕ) → from ≤ to → length text ≤ to - from → Beside n r xs (posted xs from to text)
-    posted-beside text h s = rw (posted-patch xs from to text h (omega arith) s) (patch-beside n r xs _ here long from to a b)
+    put-beside false v h = set-beside n r xs here long from v a (omega arith)
 
   pub marked-beside : (format : Bool) (m k : ℕ) → r * 80 ≤ k → k < r * 80 + 80 → Beside n r xs (markSet format m xs k)
   unfolding markSet
   marked-beside true m k a b = record { here = here; long = long; same-long = long; kept = λ i o. refl }
-  marked-beside false m k a b = set-beside k _ a b
+  marked-beside false m k a b = set-beside n r xs here long k _ a b
 
   pub enhanced-beside : (format : Bool) (m k : ℕ) → r * 80 ≤ k → k < r * 80 + 80 → Beside n r xs (enhanced format m xs k)
   unfolding enhanced
   enhanced-beside true m k a b = record { here = here; long = long; same-long = long; kept = λ i o. refl }
-  enhanced-beside false m k a b = set-beside k _ a b
+  enhanced-beside false m k a b = set-beside n r xs here long k _ a b
 
 -- ---- text with format off
 module _ (rows : ℕ) (p : Page) (w : Whole rows p) (insert : Bool) (v : ℕ) where

@@ -1,9 +1,8 @@
 // What an edit will change, told before it writes: nothing here writes.
 ghost use mathlib.Core.Path.{_≡_};
-ghost use mathlib.Core.Bool.{cond, _||_};
-ghost use Prim.Native.Nat.{ℕ, _+_, _-_, _*_, _/_, _≤_, _<_, max};
-ghost use lib.ListN.{length, getD, set, drop};
-ghost use Rattle.cells.specs.Memory.{patch, filled, changedWhere, shiftedRight, shiftedLeft, posted, movedUp, movedDown};
+ghost use Prim.Native.Nat.{_+_, _-_, _*_, _/_, _≤_, _<_, max};
+ghost use lib.ListN.{length, set, drop};
+ghost use Rattle.cells.specs.Memory.{filled, changedWhere, movedUp, movedDown};
 ghost use Rattle.fields.specs.Fields.{marks, stripped, unprotected, fieldEnd, target};
 ghost use Rattle.cursor.specs.Cursor.{cellOf};
 ghost use Rattle.screen.specs.Page.{page};
@@ -11,212 +10,12 @@ ghost use Rattle.screen.specs.Whole.{Whole};
 ghost use Rattle.screen.specs.Edits.{lineFed, put, typedFree, typedIn, typed, displayCleared, lineCleared, charDeleted, rowInserted, rowDeleted, markSet, markTurned, enhanced};
 ghost use Rattle.looks.specs.Looks.{changed};
 ghost use Rattle.changes.specs.Sets.{setOf};
-ghost use Rattle.changes.specs.Differing.{differs, rowOf, differingBoth};
+ghost use Rattle.changes.specs.Differing.{differs, differingBoth};
 use cells::Found;
 use changes::Changes;
 use cursor::Cursor;
 
-// Whether filling cells changes one. No early exit: the loop becomes vector code.
-fn fill_differs(s: &[u8], from: usize, to: usize, v: u8) -> bool
-    requires { ⌜ (from ≤ to) × (to ≤ length (now s)) ⌝ }
-    ensures { λ r. ⌜ r ≡ differs (now (s .entry)) (filled (now (s .entry)) from to v) ⌝ }
-{
-    let mut seen = false;
-    let mut i = from;
-    while i < to {
-        if s[i] != v {
-            seen = true;
-        }
-        i += 1;
-    }
-    seen
-}
-
-// Whether the `n` cells from `a` on differ from those from `b` on.
-fn copy_differs(s: &[u8], a: usize, b: usize, n: usize) -> bool
-    requires { ⌜ (a + n ≤ length (now s)) × (b + n ≤ length (now s)) ⌝ }
-    ensures { λ r. ⌜ r ≡ differs (now (s .entry)) (patch (now (s .entry)) a (a + n) (λ k. getD (now (s .entry)) (b + (k - a)) 0)) ⌝ }
-{
-    let mut seen = false;
-    let mut i = 0;
-    while i < n {
-        if s[a + i] != s[b + i] {
-            seen = true;
-        }
-        i += 1;
-    }
-    seen
-}
-
-// Whether a shift right changes a cell.
-fn shift_right_differs(s: &[u8], from: usize, to: usize, v: u8) -> bool
-    requires { ⌜ (from < to) × (to ≤ length (now s)) ⌝ }
-    ensures { λ r. ⌜ r ≡ differs (now (s .entry)) (shiftedRight (now (s .entry)) from to v) ⌝ }
-{
-    if s[from] != v {
-        return true;
-    }
-    let mut i = from + 1;
-    while i < to {
-        if s[i] != s[i - 1] {
-            return true;
-        }
-        i += 1;
-    }
-    false
-}
-
-// Whether a shift left changes a cell.
-fn shift_left_differs(s: &[u8], from: usize, to: usize, v: u8) -> bool
-    requires { ⌜ (from < to) × (to ≤ length (now s)) ⌝ }
-    ensures { λ r. ⌜ r ≡ differs (now (s .entry)) (shiftedLeft (now (s .entry)) from to v) ⌝ }
-{
-    let last = to - 1;
-    let mut i = from;
-    while i < last {
-        if s[i] != s[i + 1] {
-            return true;
-        }
-        i += 1;
-    }
-    s[last] != v
-}
-
-// Whether a post changes a cell.
-pub fn post_differs(s: &[u8], from: usize, to: usize, text: &[u8]) -> bool
-    requires { ⌜ (from ≤ to) × (to ≤ length (now s)) × (length (now text) ≤ to - from) ⌝ }
-    ensures { λ r. ⌜ r ≡ differs (now (s .entry)) (posted (now (s .entry)) from to (now (text .entry))) ⌝ }
-{
-    let n = text.len();
-    let mut i = 0;
-    while i < n {
-        if s[from + i] != text[i] {
-            return true;
-        }
-        i += 1;
-    }
-    fill_differs(s, from + n, to, 32)
-}
-
-// Whether a cell changes where all become blank with attribute 0.
-fn line_differs(chars: &[u8], attrs: &[u8], from: usize, to: usize) -> bool
-    requires { ⌜ (from ≤ to) × (to ≤ length (now chars)) × (to ≤ length (now attrs)) ⌝ }
-    ensures { λ r. ⌜ r ≡ differs (now (chars .entry)) (filled (now (chars .entry)) from to 32) || differs (now (attrs .entry)) (filled (now (attrs .entry)) from to 0) ⌝ }
-{
-    if fill_differs(chars, from, to, 32) {
-        return true;
-    }
-    fill_differs(attrs, from, to, 0)
-}
-
-// Whether a cell loses its enhancement where all do.
-fn strip_differs(s: &[u8], from: usize, to: usize) -> bool
-    requires { ⌜ (from ≤ to) × (to ≤ length (now s)) ⌝ }
-    ensures { λ r. ⌜ r ≡ differs (now (s .entry)) (patch (now (s .entry)) from to (λ k. stripped (getD (now (s .entry)) k 0))) ⌝ }
-{
-    let mut seen = false;
-    let mut i = from;
-    while i < to {
-        if 16 <= s[i] {
-            seen = true;
-        }
-        i += 1;
-    }
-    seen
-}
-
-// Whether a cell changes where all become blank without enhancement.
-fn rest_differs(chars: &[u8], attrs: &[u8], from: usize, to: usize) -> bool
-    requires { ⌜ (from ≤ to) × (to ≤ length (now chars)) × (to ≤ length (now attrs)) ⌝ }
-    ensures { λ r. ⌜ r ≡ differs (now (chars .entry)) (filled (now (chars .entry)) from to 32) || differs (now (attrs .entry)) (patch (now (attrs .entry)) from to (λ k. stripped (getD (now (attrs .entry)) k 0))) ⌝ }
-{
-    if fill_differs(chars, from, to, 32) {
-        return true;
-    }
-    strip_differs(attrs, from, to)
-}
-
-// Whether a cell changes where the unprotected become blank without enhancement. Cells that are all so already need no look at their fields.
-fn open_differs(chars: &[u8], attrs: &[u8], from: usize, to: usize) -> bool
-    requires { ⌜ (from < to) × (to ≤ length (now chars)) × (length (now attrs) ≡ length (now chars)) ⌝ }
-    ensures { λ r. ⌜ r ≡ differs (now (chars .entry)) (patch (now (chars .entry)) from to (λ k. cond (unprotected (marks (now (attrs .entry))) k) 32 (getD (now (chars .entry)) k 0))) || differs (now (attrs .entry)) (patch (now (attrs .entry)) from to (λ k. cond (unprotected (marks (now (attrs .entry))) k) (stripped (getD (now (attrs .entry)) k 0)) (getD (now (attrs .entry)) k 0))) ⌝ }
-{
-    if !rest_differs(chars, attrs, from, to) {
-        return false;
-    }
-    let mut kind = fields::kind_at(attrs, from);
-    let mut i = from;
-    while i < to {
-        kind = fields::kind_after(i, kind, attrs[i] % 16);
-        if fields::is_in(3, kind) {
-            if chars[i] != 32 {
-                return true;
-            }
-            if 16 <= attrs[i] {
-                return true;
-            }
-        }
-        i += 1;
-    }
-    false
-}
-
-// ---- one row of several that change
-
-// Row `r`, where a row of `v` enters at row `at` and the rows from there on move down.
-fn down_differs(s: &[u8], rows: usize, at: usize, v: u8, r: usize) -> bool
-    requires { ⌜ (length (now s) ≡ rows * 80) × (rows ≤ 96) × (at < rows) × (r < rows) ⌝ }
-    ensures { λ b. ⌜ b ≡ differs (rowOf r (now (s .entry))) (rowOf r (movedDown (now (s .entry)) (at * 80) v)) ⌝ }
-{
-    if r < at {
-        return false;
-    }
-    let first = r * 80;
-    if r == at {
-        return fill_differs(s, first, first + 80, v);
-    }
-    if s[first] != s[first - 80] {
-        return true;
-    }
-    copy_differs(s, first, first - 80, 80)
-}
-
 // ---- the rows that change, of both memories, from the last row to the first
-
-// The last row but one, where the rows below row `at` move up and the memory's last character counts as `end`.
-fn second_differs(chars: &[u8], rows: usize, end: u8) -> bool
-    requires { ⌜ (length (now chars) ≡ rows * 80) × (rows ≤ 96) × (1 < rows) ⌝ }
-    ensures { λ b. ⌜ ((at : ℕ) → at + 1 < rows → b ≡ differs (rowOf (rows - 2) (now (chars .entry))) (rowOf (rows - 2) (movedUp (set (now (chars .entry)) (rows * 80 - 1) end) (at * 80) 32))) ⌝ }
-{
-    let first = (rows - 2) * 80;
-    if chars[first + 79] != end {
-        return true;
-    }
-    copy_differs(chars, first, first + 80, 79)
-}
-
-// The same of both memories. The last attribute stays.
-fn row_second_differs(chars: &[u8], attrs: &[u8], rows: usize, end: u8) -> bool
-    requires { ⌜ (length (now chars) ≡ rows * 80) × (length (now attrs) ≡ rows * 80) × (rows ≤ 96) × (1 < rows) ⌝ }
-    ensures { λ b. ⌜ ((at : ℕ) → at + 1 < rows → b ≡ differs (rowOf (rows - 2) (now (chars .entry))) (rowOf (rows - 2) (movedUp (set (now (chars .entry)) (rows * 80 - 1) end) (at * 80) 32)) || differs (rowOf (rows - 2) (now (attrs .entry))) (rowOf (rows - 2) (movedUp (now (attrs .entry)) (at * 80) 0))) ⌝ }
-{
-    if second_differs(chars, rows, end) {
-        return true;
-    }
-    let first = (rows - 2) * 80;
-    copy_differs(attrs, first, first + 80, 80)
-}
-
-// Both memories' row from cell `first` on, where the row below comes there.
-fn row_copy_differs(chars: &[u8], attrs: &[u8], first: usize) -> bool
-    requires { ⌜ (first + 160 ≤ length (now chars)) × (first + 160 ≤ length (now attrs)) ⌝ }
-    ensures { λ b. ⌜ b ≡ differs (now (chars .entry)) (patch (now (chars .entry)) first (first + 80) (λ k. getD (now (chars .entry)) (first + 80 + (k - first)) 0)) || differs (now (attrs .entry)) (patch (now (attrs .entry)) first (first + 80) (λ k. getD (now (attrs .entry)) (first + 80 + (k - first)) 0)) ⌝ }
-{
-    if copy_differs(chars, first, first + 80, 80) {
-        return true;
-    }
-    copy_differs(attrs, first, first + 80, 80)
-}
 
 // The last row, and the last but one where row `at` is not the last: the rows from there on.
 fn look_ends(chars: &[u8], attrs: &[u8], rows: usize, at: usize, end: u8) -> Changes
@@ -224,11 +23,11 @@ fn look_ends(chars: &[u8], attrs: &[u8], rows: usize, at: usize, end: u8) -> Cha
     ensures { λ r. ⌜ r ≡ setOf (drop (max at (rows - 2)) (differingBoth rows (now (chars .entry)) (now (attrs .entry)) (movedUp (set (now (chars .entry)) (rows * 80 - 1) end) (at * 80) 32) (movedUp (now (attrs .entry)) (at * 80) 0))) ⌝ }
 {
     let first = (rows - 1) * 80;
-    let found = Changes::none().behind(line_differs(chars, attrs, first, first + 80));
+    let found = Changes::none().behind(compare::line_differs(chars, attrs, first, first + 80));
     if at + 1 == rows {
         return found;
     }
-    found.behind(row_second_differs(chars, attrs, rows, end))
+    found.behind(compare::row_second_differs(chars, attrs, rows, end))
 }
 
 // Where the rows end that have two rows below them, from row `at` on.
@@ -261,7 +60,7 @@ fn look_up(chars: &[u8], attrs: &[u8], rows: usize, at: usize, end: u8) -> Chang
         }
         if top < k {
             k -= 80;
-            found = found.behind(row_copy_differs(chars, attrs, k));
+            found = found.behind(compare::row_copy_differs(chars, attrs, k));
         }
     }
     while 0 < k {
@@ -269,16 +68,6 @@ fn look_up(chars: &[u8], attrs: &[u8], rows: usize, at: usize, end: u8) -> Chang
         found = found.behind(false);
     }
     found
-}
-
-fn row_down_differs(chars: &[u8], attrs: &[u8], rows: usize, at: usize, r: usize) -> bool
-    requires { ⌜ (length (now chars) ≡ rows * 80) × (length (now attrs) ≡ rows * 80) × (rows ≤ 96) × (at < rows) × (r < rows) ⌝ }
-    ensures { λ b. ⌜ b ≡ differs (rowOf r (now (chars .entry))) (rowOf r (movedDown (now (chars .entry)) (at * 80) 32)) || differs (rowOf r (now (attrs .entry))) (rowOf r (movedDown (now (attrs .entry)) (at * 80) 0)) ⌝ }
-{
-    if down_differs(chars, rows, at, 32, r) {
-        return true;
-    }
-    down_differs(attrs, rows, at, 0, r)
 }
 
 // A blank row enters at row `at`, the rows from there on move down.
@@ -290,23 +79,9 @@ fn look_down(chars: &[u8], attrs: &[u8], rows: usize, at: usize) -> Changes
     let mut r = rows;
     while 0 < r {
         r -= 1;
-        found = found.behind(row_down_differs(chars, attrs, rows, at, r));
+        found = found.behind(compare::row_down_differs(chars, attrs, rows, at, r));
     }
     found
-}
-
-fn row_clear_differs(chars: &[u8], attrs: &[u8], rows: usize, k: usize, r: usize) -> bool
-    requires { ⌜ (length (now chars) ≡ rows * 80) × (length (now attrs) ≡ rows * 80) × (rows ≤ 96) × (r < rows) ⌝ }
-    ensures { λ b. ⌜ b ≡ differs (rowOf r (now (chars .entry))) (rowOf r (filled (now (chars .entry)) k (rows * 80) 32)) || differs (rowOf r (now (attrs .entry))) (rowOf r (filled (now (attrs .entry)) k (rows * 80) 0)) ⌝ }
-{
-    let first = r * 80;
-    if k <= first {
-        return line_differs(chars, attrs, first, first + 80);
-    }
-    if first + 80 <= k {
-        return false;
-    }
-    line_differs(chars, attrs, k, first + 80)
 }
 
 // All cells from cell `k` on become blank with attribute 0.
@@ -318,23 +93,9 @@ pub fn look_clear(chars: &[u8], attrs: &[u8], rows: usize, k: usize) -> Changes
     let mut r = rows;
     while 0 < r {
         r -= 1;
-        found = found.behind(row_clear_differs(chars, attrs, rows, k, r));
+        found = found.behind(compare::row_clear_differs(chars, attrs, rows, k, r));
     }
     found
-}
-
-fn row_wipe_differs(chars: &[u8], attrs: &[u8], rows: usize, k: usize, r: usize) -> bool
-    requires { ⌜ (length (now chars) ≡ rows * 80) × (length (now attrs) ≡ rows * 80) × (rows ≤ 96) × (r < rows) ⌝ }
-    ensures { λ b. ⌜ b ≡ differs (rowOf r (now (chars .entry))) (rowOf r (changedWhere (now (chars .entry)) k (unprotected (marks (now (attrs .entry)))) (λ v. 32))) || differs (rowOf r (now (attrs .entry))) (rowOf r (changedWhere (now (attrs .entry)) k (unprotected (marks (now (attrs .entry)))) stripped)) ⌝ }
-{
-    let first = r * 80;
-    if k <= first {
-        return open_differs(chars, attrs, first, first + 80);
-    }
-    if first + 80 <= k {
-        return false;
-    }
-    open_differs(chars, attrs, k, first + 80)
 }
 
 // The unprotected cells from cell `k` on become blank without enhancement.
@@ -346,7 +107,7 @@ fn look_wipe(chars: &[u8], attrs: &[u8], rows: usize, k: usize) -> Changes
     let mut r = rows;
     while 0 < r {
         r -= 1;
-        found = found.behind(row_wipe_differs(chars, attrs, rows, k, r));
+        found = found.behind(compare::row_wipe_differs(chars, attrs, rows, k, r));
     }
     found
 }
@@ -359,7 +120,7 @@ fn put_differs(chars: &[u8], k: usize, end: usize, insert: bool, v: u8) -> bool
     ensures { λ r. ⌜ r ≡ differs (now (chars .entry)) (put insert (now (chars .entry)) k end v) ⌝ }
 {
     if insert {
-        return shift_right_differs(chars, k, end, v);
+        return compare::shift_right_differs(chars, k, end, v);
     }
     chars[k] != v
 }
@@ -370,7 +131,7 @@ fn put_in_differs(chars: &[u8], attrs: &[u8], k: usize, insert: bool, v: u8) -> 
     ensures { λ r. ⌜ r ≡ differs (now (chars .entry)) (put insert (now (chars .entry)) k (fieldEnd (marks (now (attrs .entry))) k) v) ⌝ }
 {
     if insert {
-        return shift_right_differs(chars, k, fields::field_end(attrs, k), v);
+        return compare::shift_right_differs(chars, k, fields::field_end(attrs, k), v);
     }
     chars[k] != v
 }
@@ -477,11 +238,14 @@ pub fn look_clear_line(
     if format {
         if fields::is_unprotected(attrs, k) {
             let end = fields::field_end(attrs, k);
-            return Changes::one(cursor.row, rest_differs(chars, attrs, k, end));
+            return Changes::one(cursor.row, compare::rest_differs(chars, attrs, k, end));
         }
         return Changes::none();
     }
-    Changes::one(cursor.row, line_differs(chars, attrs, k, k / 80 * 80 + 80))
+    Changes::one(
+        cursor.row,
+        compare::line_differs(chars, attrs, k, k / 80 * 80 + 80),
+    )
 }
 
 pub fn look_delete_char(
@@ -498,13 +262,13 @@ pub fn look_delete_char(
     if format {
         if fields::is_unprotected(attrs, k) {
             let end = fields::field_end(attrs, k);
-            return Changes::one(cursor.row, shift_left_differs(chars, k, end, 32));
+            return Changes::one(cursor.row, compare::shift_left_differs(chars, k, end, 32));
         }
         return Changes::none();
     }
     Changes::one(
         cursor.row,
-        shift_left_differs(chars, k, k / 80 * 80 + 80, 32),
+        compare::shift_left_differs(chars, k, k / 80 * 80 + 80, 32),
     )
 }
 

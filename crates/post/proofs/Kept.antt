@@ -17,7 +17,7 @@ use Rattle.fields.specs.Fields.{marks, kindAt, fieldEnd, nthField}
 use Rattle.fields.proofs.Marks.{length-marks}
 use Rattle.fields.proofs.Fields.{field-ends, end-inside}
 use Rattle.fields.proofs.Starts.{nth-open}
-use Rattle.screen.proofs.Kept.{choose-by}
+use Rattle.cells.proofs.Choices.{choose-by}
 use Rattle.changes.specs.declared.Changes.{Changes}
 use Rattle.changes.specs.Sets.{setOf, either}
 use Rattle.changes.specs.Differing.{differingBoth}

@@ -81,7 +81,7 @@ fn post_field(
     if !fits_all(kind, text) {
         return leave(6);
     }
-    if !looks::post_differs(chars, k, end, text) {
+    if !compare::post_differs(chars, k, end, text) {
         return leave(0);
     }
     cells::post_at(chars, k, end, text);

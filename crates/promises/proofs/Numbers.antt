@@ -18,7 +18,7 @@ use Rattle.cursor.specs.Cursor.{cellOf}
 use Rattle.cells.specs.Range.{within}
 use Rattle.fields.specs.Fields.{marks, kindAt, fieldEnd, nthField, target, allowed}
 use Rattle.reading.specs.Action as Action
-use Rattle.screen.proofs.Kept.{choose-by}
+use Rattle.cells.proofs.Choices.{choose-by}
 use Rattle.terminal.specs.declared.Terminal.{Terminal}
 use Rattle.terminal.specs.State.{World, isGood, isSized, barred}
 use Rattle.terminal.specs.Refusals.{Refusal, _when_, firstRefusal}

@@ -11,7 +11,7 @@ use lib.Dec.{eqb, leb}
 use borrow.Author.Tests.{eqb-true, eqb-false, leb-true}
 use Rattle.cells.specs.Memory.{written}
 use Rattle.cells.proofs.Search.{not-both}
-use Rattle.screen.proofs.Kept.{choose-by}
+use Rattle.cells.proofs.Choices.{choose-by}
 use Rattle.terminal.specs.State.{World, isGood, isSized, Sound}
 use Rattle.terminal.proofs.Good.{in-good, in-sized, sound-in}
 use Rattle.key.specs.Keys.{keyed}

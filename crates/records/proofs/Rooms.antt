@@ -4,7 +4,7 @@ use mathlib.Core.Path.{_≡_, refl, ap}
 use mathlib.Core.List.{List}
 use lib.ListN.{length, drop}
 use lib.Dec.{eqb}
-use Rattle.screen.proofs.Kept.{choose-both}
+use Rattle.cells.proofs.Choices.{choose-both}
 use Rattle.terminal.specs.State.{World}
 use Rattle.key.specs.Keys.{Keyed}
 use Rattle.key.proofs.Rooms.{keyed-room}

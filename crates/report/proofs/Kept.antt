@@ -6,7 +6,7 @@ use lib.ListN.{replicate, length-replicate}
 use lib.Dec.{eqb}
 use borrow.Author.Tests.{eqb-true}
 use Rattle.reading.proofs.Rules.{either}
-use Rattle.screen.proofs.Kept.{choose-by}
+use Rattle.cells.proofs.Choices.{choose-by}
 use Rattle.terminal.specs.declared.Terminal.{Terminal}
 use Rattle.terminal.specs.State.{Good}
 use Rattle.terminal.proofs.Noted.{good-flagged}

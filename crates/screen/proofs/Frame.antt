@@ -22,7 +22,8 @@ use Rattle.fields.proofs.Starts.{target-is-unprotected}
 use Rattle.screen.specs.Page.{Page, cell, marksOf}
 use Rattle.screen.specs.Whole.{Whole}
 use Rattle.screen.specs.Edits.{lineFed, put, typedAt, typedIn, typed, cleared, displayCleared, lineCleared, charDeleted, rowInserted, rowDeleted, markSet, markTurned, enhanced}
-use Rattle.screen.proofs.Kept.{choose-by, length-put, marks-long}
+use Rattle.cells.proofs.Choices.{choose-by}
+use Rattle.screen.proofs.Kept.{length-put, marks-long}
 
 -- q has p's characters and attribute bytes outside the cells of P; there the character may be another, and the attribute byte may be stripped
 pub record Only (P : ℕ → Type 0) (p q : Page) : Type 0 where

@@ -1,7 +1,7 @@
 -- Each edit keeps a whole page whole, and each move that looks at the memory keeps the cursor in place. Assumes nothing.
 use Prim.Native.Nat.{ℕ, _+_, _*_, _/_, _≤_, _<_}
 use mathlib.Core.Path.{_≡_, refl, _∙_}
-use mathlib.Core.Bool.{Bool, true, false, cond}
+use mathlib.Core.Bool.{Bool, true, false}
 use mathlib.Core.List.{List}
 use native.Mathlib.Omega.{arith}
 use lib.ListN.{length, getD, length-set}
@@ -10,6 +10,7 @@ use borrow.Author.Tests.{ltb-true}
 use Rattle.cells.specs.declared.Found.{Found}
 use Rattle.cells.specs.declared.Found.the-variants.{At, Nothing}
 use Rattle.cells.specs.Search.{atOr, lastIn}
+use Rattle.cells.proofs.Choices.{choose-by}
 use Rattle.cells.proofs.Patch.{length-changedWhere}
 use Rattle.cells.proofs.Splice.{length-movedUp, length-movedDown}
 use Rattle.cells.proofs.Values.{length-filled, length-shiftedRight, length-shiftedLeft}
@@ -23,16 +24,6 @@ use Rattle.fields.proofs.Starts.{first-inside, next-open, prev-open, target-ope
 use Rattle.screen.specs.Page.{Page, page, cell, marksOf}
 use Rattle.screen.specs.Whole.{Whole}
 use Rattle.screen.specs.Edits.{scrolled, lineFed, homed, homedDown, goneFound, tabbedIn, backTabbedIn, put, onward, typedFree, cellAfter, typedAt, typedIn, typed, cleared, displayCleared, lineCleared, charDeleted, rowInserted, rowDeleted, markSet, markTurned, enhanced}
-
--- what a choice has by a test: the first arm where the test holds, the second where it fails
-pub choose-by : {A : Type 0} (P : A → Type 0) (t : Bool) {x y : A} → (t ≡ true → P x) → (t ≡ false → P y) → P (cond t x y)
-choose-by P true p q = p refl
-choose-by P false p q = q refl
-
--- what two choices by one test share
-pub choose-both : {A : Type 0} (R : A → A → Type 0) (t : Bool) {x y x′ y′ : A} → (t ≡ true → R x x′) → (t ≡ false → R y y′) → R (cond t x y) (cond t x′ y′)
-choose-both R true p q = p refl
-choose-both R false p q = q refl
 
 -- ---- lengths
 pub length-put : (insert : Bool) (xs : List ℕ) (k e v : ℕ) → length (put insert xs k e v) ≡ length xs

@@ -12,9 +12,9 @@ use Rattle.cursor.proofs.Place.{row-in}
 use Rattle.fields.specs.Fields.{marks, stripped}
 use Rattle.fields.proofs.Fields.{field-ends}
 use Rattle.screen.specs.Edits.{cleared, lineCleared}
+use Rattle.compare.proofs.Patches.{patch-changed}
+use Rattle.compare.proofs.Rows.{filled-beside, changed-beside}
 use Rattle.looks.specs.Looks.{changed}
-use Rattle.looks.proofs.Patches.{patch-changed}
-use Rattle.looks.proofs.Pages.{filled-beside, changed-beside}
 use Rattle.looks.proofs.look_clear_line.Statement.{statement}
 use Rattle.looks.proofs.look_clear_line.Tie as tie
 

@@ -7,8 +7,8 @@ use Rattle.cursor.proofs.Place.{row-in}
 use Rattle.fields.specs.Fields.{marks}
 use Rattle.fields.proofs.Fields.{field-ends}
 use Rattle.screen.specs.Edits.{charDeleted}
+use Rattle.compare.proofs.Rows.{shiftedLeft-beside}
 use Rattle.looks.specs.Looks.{changed}
-use Rattle.looks.proofs.Pages.{shiftedLeft-beside}
 use Rattle.looks.proofs.look_delete_char.Statement.{statement}
 use Rattle.looks.proofs.look_delete_char.Tie as tie
 

@@ -4,7 +4,7 @@ use mathlib.Core.Path.{_≡_, _∙_}
 use native.Mathlib.Omega.{arith}
 use borrow.Author.Needs.{needs}
 use Rattle.changes.proofs.Differing.{told-none, told-more}
-use Rattle.looks.proofs.Moves.{both-last}
+use Rattle.compare.proofs.Moves.{both-last}
 use Rattle.looks.proofs.look_ends.Statement.{statement}
 use Rattle.looks.proofs.look_ends.Tie as tie
 

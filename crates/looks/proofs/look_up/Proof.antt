@@ -9,7 +9,7 @@ use borrow.Author.Needs.{needs}
 use Rattle.cells.specs.Memory.{movedUp}
 use Rattle.changes.specs.declared.Changes.{Changes}
 use Rattle.changes.proofs.Differing.{Told, told-more, told-all}
-use Rattle.looks.proofs.Moves.{both-above, both-copy, both-first}
+use Rattle.compare.proofs.Moves.{both-above, both-copy, both-first}
 use Rattle.looks.proofs.look_up.Statement.{statement}
 use Rattle.looks.proofs.look_up.Tie as tie
 

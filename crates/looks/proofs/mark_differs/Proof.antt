@@ -4,7 +4,7 @@ use native.Mathlib.Omega.{arith}
 use borrow.Author.Needs.{needs}
 use Rattle.changes.proofs.Differing.{differs-same}
 use Rattle.screen.specs.Edits.{markSet}
-use Rattle.looks.proofs.Pages.{set-differs}
+use Rattle.compare.proofs.Rows.{set-differs}
 use Rattle.looks.proofs.mark_differs.Statement.{statement}
 use Rattle.looks.proofs.mark_differs.Tie as tie
 

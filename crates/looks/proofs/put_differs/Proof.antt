@@ -2,7 +2,7 @@
 use native.Mathlib.Omega.{arith}
 use borrow.Author.Needs.{needs}
 use Rattle.screen.specs.Edits.{put}
-use Rattle.looks.proofs.Pages.{set-differs}
+use Rattle.compare.proofs.Rows.{set-differs}
 use Rattle.looks.proofs.put_differs.Statement.{statement}
 use Rattle.looks.proofs.put_differs.Tie as tie
 

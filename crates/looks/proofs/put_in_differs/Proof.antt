@@ -3,7 +3,7 @@ use native.Mathlib.Omega.{arith}
 use Rattle.fields.specs.Fields.{marks}
 use Rattle.fields.proofs.Fields.{field-ends}
 use Rattle.screen.specs.Edits.{put}
-use Rattle.looks.proofs.Pages.{set-differs}
+use Rattle.compare.proofs.Rows.{set-differs}
 use Rattle.looks.proofs.put_in_differs.Statement.{statement}
 use Rattle.looks.proofs.put_in_differs.Tie as tie
 

@@ -11,7 +11,7 @@ use Rattle.changes.specs.Differing.{differingBoth}
 use Rattle.changes.proofs.Differing.{differs-equal, no-row, chars-row}
 use Rattle.fields.specs.Fields.{marks}
 use Rattle.fields.proofs.Fields.{field-ends}
-use Rattle.looks.proofs.Pages.{posted-beside}
+use Rattle.compare.proofs.Rows.{posted-beside}
 use Rattle.terminal.specs.State.{world}
 use Rattle.terminal.specs.Refusals.{firstRefusal}
 use Rattle.post.specs.Posts.{Posted, tooLong, misfits, postedAt}
