@@ -185,7 +185,7 @@ pub fn field_end(attrs: &[u8], cell: usize) -> usize
     end
 }
 
-// How many of the 16 cells from `from` on have a mark 1 to 3: a loop without a branch, which becomes vector code.
+// How many of the 16 cells from `from` on have a mark 1 to 3. No early exit: the loop becomes vector code.
 fn count_starts(attrs: &[u8], from: usize) -> usize
     requires { ⌜ from + 16 ≤ length (now attrs) ⌝ }
     ensures { λ r. ⌜ r ≡ countIn (isIn 3) (marks (now (attrs .entry))) from (from + 16) ⌝ }
