@@ -11,8 +11,9 @@ use lib.Seq.{ext-getD, getD-take, getD-drop, getD-set-same, getD-set-other, drop
 use lib.Dec.{eqb}
 use borrow.Author.Tests.{eqb-true, eq-eqb, not-false}
 use Rattle.changes.specs.declared.Changes.{Changes}
-use Rattle.changes.specs.Sets.{setOf, either, only}
-use Rattle.changes.specs.Differing.{differs, rowOf, differing, differingBoth}
+use Rattle.changes.specs.Sets.{setOf, either}
+use Rattle.changes.specs.Differing.{differs, differing, differingBoth}
+use Rattle.changes.specs.Rows.{rowOf, only}
 use Rattle.changes.proofs.Sets.{length-either, either-at, either-none, none-either, length-only, either-only}
 
 -- ---- a test is true or false

@@ -11,7 +11,8 @@ use lib.Count.{ones, ones-step, trailingZeros, under}
 use lib.Pow.{pow-pos, shr-shr}
 use lib.Bits.{bitOr, or-step, or-zero-l, or-zero-r, block-half, block-odd, shifted-half}
 use borrow.Author.Tests.{eq-eqb}
-use Rattle.changes.specs.Sets.{digit, wordOf, digitsOf, either, only, countTrue, firstTrue}
+use Rattle.changes.specs.Sets.{digit, wordOf, digitsOf, either, countTrue, firstTrue}
+use Rattle.changes.specs.Rows.{only}
 
 -- ---- a digit and the rest
 digit-low : (b : Bool) (n : ℕ) → eqb ((digit b + 2 * n) % 2) 1 ≡ b

@@ -9,7 +9,8 @@ use lib.ListN.{length, getD, replicate, length-set, length-replicate}
 use lib.Pow.{split}
 use borrow.Author.Tests.{lt-ltb, ltb-true}
 use Rattle.changes.specs.declared.Changes.{Changes}
-use Rattle.changes.specs.Sets.{wordOf, digitsOf, whole, setOf, rowsOf, noSpare, either, only}
+use Rattle.changes.specs.Sets.{wordOf, digitsOf, whole, setOf, rowsOf, noSpare, either}
+use Rattle.changes.specs.Rows.{only}
 use Rattle.changes.proofs.Digits.{word-digits, digits-word, word-lt, length-digits}
 
 -- ---- a number's two words, and the set whose words they are

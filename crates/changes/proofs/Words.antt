@@ -13,7 +13,8 @@ use lib.Pow.{pow-lt, pow-mono, pow-pos, pow-add, shr-shr}
 use lib.Bits.{bitOr, or-zero-r, or-mod, or-shr}
 use borrow.Author.Tests.{lt-ltb, le-ltb}
 use Rattle.changes.specs.declared.Changes.{Changes}
-use Rattle.changes.specs.Sets.{digit, wordOf, digitsOf, whole, setOf, rowsOf, noSpare, either, only, countTrue, firstTrue}
+use Rattle.changes.specs.Sets.{digit, wordOf, digitsOf, whole, setOf, rowsOf, noSpare, either, countTrue, firstTrue}
+use Rattle.changes.specs.Rows.{only}
 use Rattle.changes.proofs.Digits.{digit-lt, word-lt, digit-at, digit-below, word-either, word-none, word-one, word-all, count-is, first-is, first-none, first-low, first-high}
 use Rattle.changes.proofs.Sets.{Words, words, words-of, spare-in}
 

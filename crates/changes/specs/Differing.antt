@@ -1,5 +1,5 @@
 -- The rows in which two memories differ. Rows have 80 cells. Assumes nothing.
-use Prim.Native.Nat.{ℕ, zero, suc, _*_}
+use Prim.Native.Nat.{ℕ, zero, suc}
 use mathlib.Core.Bool.{Bool, true, false, _||_, not}
 use mathlib.Core.List.{List, [], _∷_}
 use lib.ListN.{take, drop}
@@ -12,10 +12,6 @@ differs [] [] = false
 differs [] (y ∷ ys) = true
 differs (x ∷ xs) [] = true
 differs (x ∷ xs) (y ∷ ys) = not (eqb x y) || differs xs ys
-
--- row r of a memory
-unfoldable pub rowOf : ℕ → List ℕ → List ℕ
-rowOf r xs = take 80 (drop (r * 80) xs)
 
 -- for each of n rows whether it differs, the first row first
 unfoldable pub differing : ℕ → List ℕ → List ℕ → List Bool

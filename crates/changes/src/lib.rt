@@ -4,7 +4,8 @@ ghost use mathlib.Core.Bool.{Bool, true, false};
 ghost use mathlib.Core.List.{List, _∷_};
 ghost use Prim.Native.Nat.{ℕ, _<_, _≤_};
 ghost use lib.ListN.{length, getD, replicate};
-ghost use Rattle.changes.specs.Sets.{setOf, rowsOf, noSpare, either, only, countTrue, firstTrue};
+ghost use Rattle.changes.specs.Sets.{setOf, rowsOf, noSpare, either, countTrue, firstTrue};
+ghost use Rattle.changes.specs.Rows.{only};
 
 pub struct Changes {
     pub low: u64,

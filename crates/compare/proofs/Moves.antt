@@ -11,7 +11,8 @@ use borrow.Author.Tests.{lt-ltb, le-ltb}
 use Rattle.cells.specs.Memory.{patch, filled, changedWhere, movedUp, movedDown}
 use Rattle.cells.proofs.Patch.{patched, done-where}
 use Rattle.cells.proofs.Splice.{movedUp-patch, movedDown-patch}
-use Rattle.changes.specs.Differing.{differs, rowOf}
+use Rattle.changes.specs.Differing.{differs}
+use Rattle.changes.specs.Rows.{rowOf}
 use Rattle.changes.proofs.Differing.{or-first, or-second}
 use Rattle.compare.proofs.Patches.{kept, altered, patch-as, patch-upto, patch-set, patch-row}
 

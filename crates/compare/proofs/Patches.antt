@@ -10,7 +10,8 @@ use lib.Seq.{getD-set-other}
 use lib.Dec.{ltb}
 use Rattle.cells.specs.Memory.{patch, changedWhere}
 use Rattle.cells.proofs.Patch.{lt-or, eq-or, patched, done, done-upto}
-use Rattle.changes.specs.Differing.{differs, rowOf}
+use Rattle.changes.specs.Differing.{differs}
+use Rattle.changes.specs.Rows.{rowOf}
 use Rattle.changes.proofs.Differing.{true-or, differs-same, differs-equal, differs-cell, rows-same, Beside, row-differs}
 
 module _ (xs : List ℕ) (lo hi : ℕ) (f : ℕ → ℕ) where

@@ -5,7 +5,8 @@ ghost use Prim.Native.Nat.{ℕ, _+_, _-_, _*_, _≤_, _<_};
 ghost use lib.ListN.{length, getD, set};
 ghost use Rattle.cells.specs.Memory.{patch, filled, changedWhere, shiftedRight, shiftedLeft, posted, movedUp, movedDown};
 ghost use Rattle.fields.specs.Fields.{marks, stripped, unprotected};
-ghost use Rattle.changes.specs.Differing.{differs, rowOf};
+ghost use Rattle.changes.specs.Differing.{differs};
+ghost use Rattle.changes.specs.Rows.{rowOf};
 
 // Whether filling cells changes one. No early exit: the loop becomes vector code.
 fn fill_differs(s: &[u8], from: usize, to: usize, v: u8) -> bool

@@ -15,7 +15,8 @@ use Rattle.cursor.specs.declared.Cursor.{Cursor}
 use Rattle.cursor.specs.Cursor.{topFor, gone, cellOf, atCell, InPlace}
 use Rattle.cursor.proofs.Place.{cell-of, cell-in, row-in}
 use Rattle.changes.specs.declared.Changes.{Changes}
-use Rattle.changes.specs.Sets.{setOf, rowsOf, either, only}
+use Rattle.changes.specs.Sets.{setOf, rowsOf, either}
+use Rattle.changes.specs.Rows.{only}
 use Rattle.changes.specs.Differing.{differs, differingBoth}
 use Rattle.changes.proofs.Sets.{rows-set, length-rows, length-either, either-assoc}
 use Rattle.changes.proofs.Differing.{Beside, differs-then, differingBoth-then, differingBoth-chars, length-differingBoth}

@@ -10,6 +10,7 @@ use lib.Dec.{leb, eqb}
 use borrow.Author.Tests.{eq-eqb, ne-eqb, leb-true}
 use Rattle.cells.specs.Range.{within}
 use Rattle.cells.proofs.Patch.{eq-or}
+use Rattle.cells.proofs.Search.{not-both}
 use Rattle.changes.specs.declared.Changes.{Changes}
 use Rattle.changes.specs.Sets.{setOf, either}
 use Rattle.changes.specs.Differing.{differingBoth}
@@ -20,7 +21,7 @@ use Rattle.terminal.specs.declared.Terminal.{Terminal}
 use Rattle.terminal.specs.State.{World, world, stated, placed, flagged, Sound}
 use Rattle.terminal.specs.Acts.{switched, steered, stamps, acted}
 use Rattle.terminal.specs.Noted.{differingRows, noted}
-use Rattle.terminal.proofs.Noted.{differingRows-none, noted-join}
+use Rattle.terminal.proofs.Noted.{noted-if}
 use Rattle.reading.specs.Action as Action
 use Rattle.reading.proofs.Rules.{either as cases}
 use Rattle.key.specs.Keys.{keyAction}
@@ -76,13 +77,12 @@ pub pressed-left : (rows code : ℕ) (w : World) {u : World} {found joined : Cha
     → ((l m : List Bool) → w .state .changes ≡ setOf l → found ≡ setOf m → joined ≡ setOf (either l m))
     → ((n : ℕ) → found ≡ setOf (replicate n false) → joined ≡ w .state .changes)
     → stated u (flagged (u .state) joined) ≡ cond (eqb code 0) w (noted rows w (struck rows code w))
-pressed-left rows code w {u} {found} s e f j k = elim (eq-or code 0) [
-  | inl z ↦ (
-      let o : struck rows code w ≡ w = ap (λ (c : ℕ). struck rows c w) z ∙ unlisted-leaves rows w in
-      let n : found ≡ setOf (replicate rows false) = f ∙ ap (λ (x : World). setOf (differingRows rows w x)) o ∙ ap setOf (differingRows-none rows w) in
-      rw (eq-eqb code 0 z) (ap₂ (λ (o : World) (c : Changes). stated o (flagged (o .state) c)) (e ∙ o) (k rows n)))
-  | inr z ↦ rw (ne-eqb code 0 z) (noted-join w (s z .good) e f j)
-]
+pressed-left rows code w {u} {found} s e f j k =
+    let g : found ≡ setOf (differingRows rows w u) = f ∙ ap (λ (x : World). setOf (differingRows rows w x)) (sym e) in
+    elim (eq-or code 0) [
+      | inl z ↦ rw (eq-eqb code 0 z) (noted-if false w (struck rows code w) (λ h. absurd (not-both h refl)) (e ∙ ap (λ (c : ℕ). struck rows c w) z ∙ unlisted-leaves rows w) g j k)
+      | inr z ↦ rw (ne-eqb code 0 z) (noted-if true w (struck rows code w) (λ _. s z .good) e g j k)
+    ]
 
 -- ---- the keys that write, and those that leave the memory
 pub edits-action : (code : ℕ) (insert : Bool) → (edits code ≡ Action.rest → ⊥) → edits code ≡ keyAction code insert

@@ -1,4 +1,4 @@
--- The rows in which a page differs before and after an edit. Assumes nothing.
+-- Only proofs and inner contracts need this: the rows in which a page differs before and after an edit. Assumes nothing.
 use Prim.Native.Nat.{ℕ}
 use mathlib.Core.Bool.{Bool}
 use mathlib.Core.List.{List}

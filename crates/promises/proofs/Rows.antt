@@ -9,7 +9,8 @@ use lib.ListN.{length, getD}
 use lib.Dec.{eqb}
 use borrow.Author.Tests.{eqb-false}
 use Rattle.changes.specs.Sets.{rowsOf, noSpare, either}
-use Rattle.changes.specs.Differing.{differs, rowOf}
+use Rattle.changes.specs.Differing.{differs}
+use Rattle.changes.specs.Rows.{rowOf}
 use Rattle.changes.proofs.Sets.{rows-set, set-good, length-rows, either-at, either-none}
 use Rattle.changes.proofs.Differing.{true-or, or-first, or-last, differs-equal, getD-row, length-row, differingBoth-at}
 use Rattle.reading.proofs.Rules as Rules

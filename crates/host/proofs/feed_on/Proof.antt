@@ -4,7 +4,8 @@ use Rattle.host.proofs.Streams.{fedOn-turn, fedOn-stop, fedOn-end}
 use Rattle.host.proofs.Kept.{stepped-by-sound, sound-by}
 use Rattle.host.proofs.Runs.{free-in, text-turn}
 use Rattle.host.proofs.Sequences.{follow-on}
-use Rattle.changes.specs.Sets.{rowsOf, only}
+use Rattle.changes.specs.Sets.{rowsOf}
+use Rattle.changes.specs.Rows.{only}
 use Rattle.changes.proofs.Sets.{set-rows}
 use Rattle.cursor.proofs.Place.{row-in}
 use borrow.Author.Needs.{needs}
