@@ -7,11 +7,12 @@
 #include <time.h>
 #include <vterm.h>
 
-// The calls of the two static libraries, for memories of 48 and of 96 rows. A slice is a pointer, then a length; `changed` is two words, the rows that changed since the
+// The calls of the static libraries, for memories of 48 and of 96 rows; `bench_decisions` is `bench_host` by the plain reader. A slice is a pointer, then a length; `changed` is two words, the rows that changed since the
 // fresh terminal, or since the form was painted.
 #define CALLS(rows)                                                                                                                      \
     size_t bench_host_##rows(uint8_t *chars, size_t nc, uint8_t *attrs, size_t na, const uint8_t *bytes, size_t nb, uint8_t *reply,      \
                              size_t nr, uint64_t *changed, size_t nw);                                                                   \
+    __typeof__(bench_host_##rows) bench_decisions_##rows;                                                                                \
     uint64_t bench_lines_##rows(uint8_t *chars, size_t nc, uint8_t *attrs, size_t na, const uint8_t *bytes, size_t nb, uint8_t *reply,   \
                                 size_t nr, uint64_t *changed, size_t nw);                                                                \
     uint8_t bench_posts_##rows(uint8_t *chars, size_t nc, uint8_t *attrs, size_t na, const uint8_t *form, size_t nf, uint8_t *reply,     \
@@ -38,7 +39,7 @@ static uint8_t reply[2 * MOST_CELLS], their_reply[2 * MOST_CELLS];
 // The number of rows in use, and what goes with it.
 static struct {
     size_t rows, cells, room;
-    __typeof__(bench_host_48) *host;
+    __typeof__(bench_host_48) *host, *decisions;
     __typeof__(bench_lines_48) *lines;
     __typeof__(bench_posts_48) *posts;
     __typeof__(bench_keys_48) *keys;
@@ -182,9 +183,9 @@ static void print_line(const char *name, struct round r[RUNS][SIZES], size_t par
     } while (0)
 
 // The seconds of one run of each stream, from a fresh terminal.
-static double run_ours(struct stream s) {
+static double run_ours(__typeof__(bench_host_48) *host, struct stream s) {
     double start = now();
-    size_t taken = at->host(OURS, s.bytes, s.count, REPLY);
+    size_t taken = host(OURS, s.bytes, s.count, REPLY);
     double end = now();
     expect(taken == s.count, "the whole stream is taken");
     return end - start;
@@ -246,16 +247,18 @@ static void compare_streams(void) {
     struct stream s = begin(2000 * 50 + 16);
     for (size_t n = 0; n < STREAMS; n++) {
         random_stream(&s);
-        run_ours(s);
         run_plain(s);
+        run_ours(at->host, s);
+        expect_same();
+        run_ours(at->decisions, s);
         expect_same();
     }
     free(s.bytes);
 }
 
-// One stream through all three; `own` is the same in libvterm's addressing.
-static struct round stream_round(struct stream s, struct stream own) {
-    struct round r = {run_ours(s), run_plain(s), run_vterm(own, 4096)};
+// One stream through all three, ours by one of the two readers; `own` is the same in libvterm's addressing.
+static struct round stream_round(__typeof__(bench_host_48) *host, struct stream s, struct stream own) {
+    struct round r = {run_ours(host, s), run_plain(s), run_vterm(own, 4096)};
     expect_same();
     expect(vterm_agrees(), "the characters are the same as libvterm's, and it tells of each row that changed");
     return r;
@@ -382,6 +385,7 @@ static void prepare(size_t rows) {
     do {                                  \
         at = &sizes[i];                   \
         at->host = bench_host_##count;    \
+        at->decisions = bench_decisions_##count; \
         at->lines = bench_lines_##count;  \
         at->posts = bench_posts_##count;  \
         at->keys = bench_keys_##count;    \
@@ -402,11 +406,13 @@ int main(void) {
     }
     for (int f = 0; f < FORMS; f++) form[f] = form_stream(FIELDS[f], 3);
     print_head();
-    LINE("text that scrolls", text.count, "a byte", stream_round(text, text));
+    LINE("text that scrolls", text.count, "a byte", stream_round(at->host, text, text));
+    LINE("  by the plain reader", text.count, "a byte", stream_round(at->decisions, text, text));
     LINE("text, a report a line", text.count, "a byte", report_round(text));
     LINE("the same line, a report a line", alike.count, "a byte", report_round(alike));
-    LINE("empty lines that scroll", LINES, "a line", stream_round(empty, empty));
-    LINE("cursor addressing", PLACES, "a place with eight characters", stream_round(places[k], own[k]));
+    LINE("empty lines that scroll", LINES, "a line", stream_round(at->host, empty, empty));
+    LINE("cursor addressing", PLACES, "a place with eight characters", stream_round(at->host, places[k], own[k]));
+    LINE("  by the plain reader", PLACES, "a place with eight characters", stream_round(at->decisions, places[k], own[k]));
     LINE("post into field 0 of 600", POSTS, "a post", post_round(form[2], 0));
     LINE("post into field 500 of 600", POSTS, "a post", post_round(form[2], 500));
     LINE("tab, 600 fields", ROUND, "a key", key_round(form[2], TAB, TAB, ROUND));

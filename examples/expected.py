@@ -1,11 +1,12 @@
 #!/usr/bin/env python3
 """Prints what the programs `session` and `show` print, computed by the reference model.
 
-    expected.py session [48]           [FILE..]
+    expected.py session [48] [plain]   [FILE..]
     expected.py show [48] [host] [raw] [FILE..]
     expected.py show [48] changes      [FILE..]
 
 A FILE holds session records, or with `host` one host stream; without a FILE it is standard input. The terminal has 96 rows, or with `48` as many.
+The word `plain` changes nothing: it is for the reader of host bytes that `session` takes.
 """
 
 import sys
@@ -153,7 +154,7 @@ def file_lines(program, words, names):
 
 
 def main(program, words):
-    asked = [word for word in words if word in (["48"] if program == "session" else ["48", "host", "raw", "changes"])]
+    asked = [word for word in words if word in (["48", "plain"] if program == "session" else ["48", "host", "raw", "changes"])]
     names = [word for word in words if word not in asked]
     if "changes" in asked and ("host" in asked or "raw" in asked):
         sys.exit(__doc__)

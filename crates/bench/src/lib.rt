@@ -74,7 +74,7 @@ pub fn run_lines(
 }
 
 // The rows that changed, in two words.
-fn tell(t: Terminal, changed: &mut [u64]) {
+pub fn tell(t: Terminal, changed: &mut [u64]) {
     if 2 <= changed.len() {
         changed[0] = t.changes.low;
         changed[1] = t.changes.high;

@@ -17,7 +17,7 @@ use Rattle.terminal.specs.Noted.{differingRows}
 use Rattle.terminal.specs.Refusals.{firstRefusal}
 use Rattle.key.specs.Keys.{keyAction, disallows, keyRefusal, keyDone, keyed}
 use Rattle.post.specs.Posts.{fits, allFit, tooLong, misfits, postRefusal, postedAt, postedTo}
-use Rattle.host.specs.Streams.{actionFor, readOn, steppedBy, stepped, pendingReply, replyTo, answerTo, fedOn, hostRefusal, fed}
+use Rattle.streams.specs.Streams.{actionFor, readOn, steppedBy, stepped, pendingReply, replyTo, answerTo, fedOn, hostRefusal, fed}
 use Rattle.report.specs.Reports.{reportRefusal, reported}
 
 unfoldable pub rules : ℕ

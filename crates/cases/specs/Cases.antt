@@ -12,7 +12,7 @@ use Rattle.changes.specs.Sets.{rowsOf}
 use Rattle.terminal.specs.State.{World, stated, freshWorld}
 use Rattle.key.specs.Keys.{keyed}
 use Rattle.post.specs.Posts.{postedTo}
-use Rattle.host.specs.Streams.{Hosted, fed}
+use Rattle.streams.specs.Streams.{Hosted, fed}
 use Rattle.report.specs.Reports.{reported}
 
 -- ---- comparisons

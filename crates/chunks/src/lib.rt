@@ -13,7 +13,7 @@ pub struct Progress {
     pub some: bool,
 }
 
-// A session's records and their lines, as many to a call as the room takes.
+// A session's records and their lines, as many to a call as the room takes; `is_plain` is for the plain reader of host bytes.
 pub fn answer(
     p: Progress,
     page: &mut Page,
@@ -22,6 +22,7 @@ pub fn answer(
     attrs: &mut [u8],
     bytes: &[u8],
     lines: &mut [u8],
+    is_plain: bool,
 ) -> Progress
     requires { ⌜ (24 ≤ rows) × (rows ≤ 96) ⌝ }
 {
@@ -37,6 +38,7 @@ pub fn answer(
             q.number,
             &bytes[at..],
             lines,
+            is_plain,
         );
         let out = print_first(q.out, page, lines, a.written);
         let state = a.state;
@@ -248,7 +250,7 @@ fn run_record(
     let mut at = 0;
     let mut calls = record.len();
     loop {
-        let a = records::run_from_on(u, rows, chars, attrs, record, at, reply);
+        let a = records::run_from_on(u, rows, chars, attrs, record, at, reply, false);
         o = tell(o, page, reply, a.written, some, is_raw);
         some = is_some(some, a.written);
         u = a.state;

@@ -8,13 +8,14 @@ use printing::Page;
 use terminal::Terminal;
 
 // What a file is asked for: the lines of a session; or a terminal to be shown after session records, or after a host stream, as a picture, or raw for scripts; or
-// the rows that each session record changes; of a terminal of 96 rows, or of 48.
+// the rows that each session record changes; of a terminal of 96 rows, or of 48. The lines of a session are the same by the plain reader of host bytes.
 pub struct Way {
     pub is_session: bool,
     pub is_host: bool,
     pub is_raw: bool,
     pub is_changes: bool,
     pub is_48: bool,
+    pub is_plain: bool,
 }
 
 impl Way {

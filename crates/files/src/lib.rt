@@ -137,7 +137,7 @@ fn run_chunk(
 ) -> Progress {
     let rows = way.rows();
     if way.is_session {
-        return chunks::answer(p, page, rows, chars, attrs, bytes, room);
+        return chunks::answer(p, page, rows, chars, attrs, bytes, room, way.is_plain);
     }
     if way.is_host {
         return chunks::feed(p, page, rows, chars, attrs, bytes, room, way.is_raw);

@@ -37,14 +37,14 @@ use Rattle.terminal.specs.Noted.{differingRows, noted}
 use Rattle.terminal.proofs.Kept.{good-placed}
 use Rattle.terminal.proofs.Noted.{noted-none, noted-sound}
 use Rattle.runs.specs.declared.Stretch.{Stretch}
-use Rattle.host.specs.Streams.{actionFor, readOn, replyTo, steppedBy, fedOn}
+use Rattle.streams.specs.Streams.{actionFor, readOn, replyTo, steppedBy, fedOn}
 use Rattle.runs.specs.Texts.{isText, Copied}
 use Rattle.runs.proofs.Sequences.{each}
 use Rattle.host.specs.Texts.{typesFreely}
 use Rattle.runs.specs.Sequences.{inSequence, addressed}
-use Rattle.host.proofs.Answers.{reply-none}
-use Rattle.host.proofs.Kept.{sound-by, stepped-by-sound}
-use Rattle.host.proofs.Streams.{fedOn-turn}
+use Rattle.streams.proofs.Answers.{reply-none}
+use Rattle.streams.proofs.Kept.{sound-by, stepped-by-sound}
+use Rattle.streams.proofs.Streams.{fedOn-turn}
 
 -- ---- text in reading state 0
 text-at : (k : ℕ) → k < 128 → within 32 126 k ≡ true → actionAt 0 k ≡ Action.text

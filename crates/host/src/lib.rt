@@ -1,31 +1,21 @@
 // The call for host bytes.
 ghost use mathlib.Core.Path.{_≡_};
-ghost use Prim.Native.Nat.{_+_, _≤_, _<_};
+ghost use Prim.Native.Nat.{_≤_, _<_};
 ghost use mathlib.Core.Bool.{true};
-ghost use lib.ListN.{length};
-ghost use lib.Dec.{leb};
-ghost use Rattle.cells.specs.Memory.{written};
-ghost use Rattle.reading.specs.Reading.{Tabled};
+ghost use Rattle.streams.specs.Streams.{actionFor, readOn, steppedBy, hostLeft, fedOn, fed};
+ghost use Rattle.table.specs.Table.{Tabled};
 ghost use Rattle.terminal.specs.State.{world, Sound};
-ghost use Rattle.host.specs.Streams.{actionFor, readOn, steppedBy, pendingReply, replyTo, hostLeft, fedOn, fed};
 ghost use Rattle.host.specs.Texts.{typesFreely};
 use changes::Changes;
+use streams::HostAnswer;
 use terminal::Terminal;
-
-// The number, the bytes taken, the bytes written to the reply, and the state afterwards.
-pub struct HostAnswer {
-    pub number: u8,
-    pub taken: usize,
-    pub written: usize,
-    pub state: Terminal,
-}
 
 // The action of a byte, a sign that is not first settled.
 fn action_for(t: Terminal, table: &[u8; 896], byte: u8) -> u8
     requires { ⌜ t .reading < 7 ⌝ ∗ ⌜ Tabled (now table) ⌝ }
     ensures { λ r. ⌜ r ≡ actionFor t byte ⌝ }
 {
-    t.number.settle(reading::action(table, t.reading, byte))
+    t.number.settle(table::action(table, t.reading, byte))
 }
 
 // The reading state and the number after an action.
@@ -45,105 +35,6 @@ fn step(t: Terminal, rows: usize, chars: &mut [u8], attrs: &mut [u8], a: u8, byt
 {
     let b = byte % 128;
     read_on(noting::act(t, rows, chars, attrs, a, b), a, b)
-}
-
-// How many bytes the pending transfer sends.
-fn measure_pending(t: Terminal, rows: usize, chars: &[u8], attrs: &[u8]) -> usize
-    requires { ⌜ Sound rows (world t (now chars) (now attrs)) ⌝ }
-    ensures { λ r. ⌜ r ≡ length (pendingReply (world t (now (chars .entry)) (now (attrs .entry)))) ⌝ }
-{
-    let pending = t.pending;
-    match pending {
-        1 => 12,
-        2 => 12,
-        3 => 10,
-        4 => replies::measure_block(chars, attrs, t.format, t.cursor.row),
-        _ => 0,
-    }
-}
-
-// How many bytes an action sends.
-fn measure(t: Terminal, rows: usize, chars: &[u8], attrs: &[u8], a: u8) -> usize
-    requires { ⌜ Sound rows (world t (now chars) (now attrs)) ⌝ }
-    ensures { λ r. ⌜ r ≡ length (replyTo a (world t (now (chars .entry)) (now (attrs .entry)))) ⌝ }
-{
-    if a == reading::ACK {
-        return 1;
-    }
-    if a == reading::TRIGGER {
-        return measure_pending(t, rows, chars, attrs);
-    }
-    0
-}
-
-// Whether what an action sends fits into `room` bytes: room for the longest reply is told without measuring.
-fn has_room(t: Terminal, rows: usize, chars: &[u8], attrs: &[u8], a: u8, room: usize) -> bool
-    requires { ⌜ Sound rows (world t (now chars) (now attrs)) ⌝ }
-    ensures { λ r. ⌜ r ≡ leb (length (replyTo a (world t (now (chars .entry)) (now (attrs .entry))))) room ⌝ }
-{
-    if rows * 160 <= room {
-        return true;
-    }
-    measure(t, rows, chars, attrs, a) <= room
-}
-
-// The pending transfer's reply, from byte `at` of the reply on; the place past the last byte.
-fn send_pending(
-    t: Terminal,
-    rows: usize,
-    chars: &[u8],
-    attrs: &[u8],
-    reply: &mut [u8],
-    at: usize,
-) -> usize
-    requires { ⌜ Sound rows (world t (now chars) (now attrs)) ⌝ ∗ ⌜ at + length (pendingReply (world t (now chars) (now attrs))) ≤ length (now reply) ⌝ }
-    ensures { λ r. ⌜ r ≡ at + length (pendingReply (world t (now (chars .entry)) (now (attrs .entry)))) ⌝ }
-    ensures { λ r. ⌜ now (reply .exit) ≡ written (now (reply .entry)) at (pendingReply (world t (now (chars .entry)) (now (attrs .entry)))) ⌝ }
-{
-    let pending = t.pending;
-    if pending == 1 {
-        let message = replies::report_cursor(t.cursor.col, t.cursor.row, 82);
-        cells::write_at(reply, at, &message);
-        return at + 12;
-    }
-    if pending == 2 {
-        let message = replies::report_cursor(t.cursor.col, t.cursor.row - t.cursor.top, 89);
-        cells::write_at(reply, at, &message);
-        return at + 12;
-    }
-    if pending == 3 {
-        let message = replies::report_status(t.format, t.insert, t.lock);
-        cells::write_at(reply, at, &message);
-        return at + 10;
-    }
-    if pending == 4 {
-        return replies::send_block(chars, attrs, t.format, t.cursor.row, reply, at);
-    }
-    at
-}
-
-// What an action sends, from byte `at` of the reply on; the place past the last byte.
-fn send(
-    t: Terminal,
-    rows: usize,
-    chars: &[u8],
-    attrs: &[u8],
-    a: u8,
-    reply: &mut [u8],
-    at: usize,
-) -> usize
-    requires { ⌜ Sound rows (world t (now chars) (now attrs)) ⌝ ∗ ⌜ at + length (replyTo a (world t (now chars) (now attrs))) ≤ length (now reply) ⌝ }
-    ensures { λ r. ⌜ r ≡ at + length (replyTo a (world t (now (chars .entry)) (now (attrs .entry)))) ⌝ }
-    ensures { λ r. ⌜ now (reply .exit) ≡ written (now (reply .entry)) at (replyTo a (world t (now (chars .entry)) (now (attrs .entry)))) ⌝ }
-{
-    if a == reading::ACK {
-        cells::write_at(reply, at, &[6u8; 1]);
-        return at + 1;
-    }
-    if a == reading::TRIGGER {
-        return send_pending(t, rows, chars, attrs, reply, at);
-    }
-    at
 }
 
 // Whether a byte is text that goes to the cursor's cell, and the cursor right.
@@ -178,7 +69,7 @@ fn feed_on(
     requires { ⌜ Sound rows (world t (now chars) (now attrs)) ⌝ }
     ensures { λ r. ⌜ hostLeft r (now (chars .exit)) (now (attrs .exit)) (now (reply .exit)) ≡ fedOn rows (now (bytes .entry)) 0 0 (world t (now (chars .entry)) (now (attrs .entry))) (now (reply .entry)) ⌝ }
 {
-    let table = reading::actions();
+    let table = table::actions();
     let mut u = t;
     let mut at = 0;
     let mut i = 0;
@@ -204,7 +95,7 @@ fn feed_on(
             continue;
         }
         let a = action_for(u, &table, b);
-        if !has_room(u, rows, chars, attrs, a, reply.len() - at) {
+        if !streams::has_room(u, rows, chars, attrs, a, reply.len() - at) {
             return HostAnswer {
                 number: 7,
                 taken: i,
@@ -212,7 +103,7 @@ fn feed_on(
                 state: u,
             };
         }
-        at = send(u, rows, chars, attrs, a, reply, at);
+        at = streams::send(u, rows, chars, attrs, a, reply, at);
         u = step(u, rows, chars, attrs, a, b);
         i += 1;
     }

@@ -13,6 +13,7 @@ pub fn find(is_session: bool) -> Asked {
     let mut is_raw = false;
     let mut is_changes = false;
     let mut is_48 = false;
+    let mut is_plain = false;
     let mut is_bad = false;
     let mut files = 0;
     let n = os::arg_count();
@@ -24,6 +25,7 @@ pub fn find(is_session: bool) -> Asked {
             3 => is_48 = true,
             4 => is_changes = true,
             5 => is_bad = true,
+            6 => is_plain = true,
             _ => files = more(files),
         }
         i += 1;
@@ -34,6 +36,7 @@ pub fn find(is_session: bool) -> Asked {
         is_raw: is_raw,
         is_changes: is_changes,
         is_48: is_48,
+        is_plain: is_plain,
     };
     Asked {
         way: way,
@@ -51,7 +54,8 @@ pub fn is_file(is_session: bool, i: usize) -> bool {
     word_at(is_session, i) == 0
 }
 
-// 0 for the name of a file, 1 for `raw`, 2 for `host` and 4 for `changes`, which `session` takes for files, 3 for `48`, 5 for a word that begins with `-`.
+// 0 for the name of a file, 1 for `raw`, 2 for `host` and 4 for `changes`, which `session` takes for files, 3 for `48`, 5 for a word that begins with `-`, 6 for `plain`,
+// which `show` takes for a file.
 fn word_at(is_session: bool, i: usize) -> u8 {
     let mut word = [0u8; 8];
     let n = os::arg(i, &mut word);
@@ -64,7 +68,7 @@ fn word_at(is_session: bool, i: usize) -> u8 {
         }
     }
     if is_session {
-        return 0;
+        return if is_plain(word, n) { 6 } else { 0 };
     }
     if n == 3 {
         if word[0] == b'r' && word[1] == b'a' && word[2] == b'w' {
@@ -77,6 +81,14 @@ fn word_at(is_session: bool, i: usize) -> u8 {
         }
     }
     if is_changes(word, n) { 4 } else { 0 }
+}
+
+// Whether a word of `n` bytes is `plain`.
+fn is_plain(word: [u8; 8], n: usize) -> bool {
+    if n != 5 {
+        return false;
+    }
+    word[0] == b'p' && word[1] == b'l' && word[2] == b'a' && word[3] == b'i' && word[4] == b'n'
 }
 
 // Whether a word of `n` bytes is `changes`.

@@ -23,9 +23,9 @@ use Rattle.key.specs.Keys.{keyed}
 use Rattle.key.proofs.Kept.{key-ready, key-sound, key-number, key-refused}
 use Rattle.post.specs.Posts.{postedTo}
 use Rattle.post.proofs.Kept.{post-ready, post-sound, post-refused}
-use Rattle.host.specs.Streams.{actionFor, steppedBy, stepped, Hosted, fedOn, fed}
-use Rattle.host.proofs.Kept.{stepped-sound, fed-by}
-use Rattle.host.proofs.Steps.{steppedOn, fedOn-is}
+use Rattle.streams.specs.Streams.{actionFor, steppedBy, stepped, Hosted, fedOn, fed}
+use Rattle.streams.proofs.Kept.{stepped-sound, fed-by}
+use Rattle.streams.proofs.Steps.{steppedOn, fedOn-is}
 use Rattle.report.specs.Reports.{reportRefusal, reported}
 use Rattle.records.specs.Records.{kindOf, numberOf, dataOf, formRefusal, Part, hostPart, keyPart, postPart, recordPart, Ran, emptied, ranFrom, recordRan}
 use Rattle.sessions.specs.Session.{next, went}

@@ -27,8 +27,8 @@ use Rattle.terminal.proofs.Good.{good-in, in-good, sized-in, in-sized}
 use Rattle.key.specs.Keys.{keyAction, enter, disallows, keyRefusal, keyed}
 use Rattle.key.proofs.Kept.{key-number}
 use Rattle.post.specs.Posts.{fits, allFit, tooLong, misfits, postRefusal, postedTo}
-use Rattle.host.specs.Streams.{answerTo, stepped, Hosted, hosted, fedOn, hostRefusal, fed}
-use Rattle.host.proofs.Kept.{fedOn-number}
+use Rattle.streams.specs.Streams.{answerTo, stepped, Hosted, hosted, fedOn, hostRefusal, fed}
+use Rattle.streams.proofs.Kept.{fedOn-number}
 use Rattle.mixing.specs.Event.{run}
 use Rattle.report.specs.Reports.{reportRefusal, reported}
 use Rattle.report.proofs.Kept.{report-number}

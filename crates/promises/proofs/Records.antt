@@ -18,11 +18,11 @@ use Rattle.key.specs.Keys.{keyed}
 use Rattle.key.proofs.Kept.{key-refused}
 use Rattle.post.specs.Posts.{postedTo}
 use Rattle.post.proofs.Kept.{post-refused}
-use Rattle.host.specs.Streams.{answerTo, stepped, Hosted, fedOn, fed}
-use Rattle.host.proofs.Streams.{fedOn-counts, step-fits}
-use Rattle.host.proofs.Kept.{fed-sound, fed-refused}
-use Rattle.host.proofs.Steps.{fed-on}
-use Rattle.host.proofs.Longest.{fed-takes, fed-number}
+use Rattle.streams.specs.Streams.{answerTo, stepped, Hosted, fedOn, fed}
+use Rattle.streams.proofs.Streams.{fedOn-counts, step-fits}
+use Rattle.streams.proofs.Kept.{fed-sound, fed-refused}
+use Rattle.streams.proofs.Steps.{fed-on}
+use Rattle.streams.proofs.Longest.{fed-takes, fed-number}
 use Rattle.records.specs.Records.{kindOf, lengthOf, numberOf, dataOf, formRefusal, Part, part, hostPart, keyPart, postPart, recordPart, Ran, ran, emptied, ranFrom, recordRan}
 use Rattle.records.proofs.Forms.{formed, form-not-7, data-part, data-short}
 use Rattle.records.proofs.Running.{other-form, host-record, key-record, post-record, fed-within}

@@ -10,9 +10,9 @@ use Rattle.terminal.specs.Refusals.{firstRefusal}
 use Rattle.terminal.proofs.Good.{freshened-good, freshened-refused}
 use Rattle.key.proofs.Kept.{key-refused, key-counts, key-good}
 use Rattle.post.proofs.Kept.{post-refused, post-good}
-use Rattle.host.specs.Streams.{hosted, fedOn, hostRefusal, fed}
-use Rattle.host.proofs.Kept.{fedOn-number, fed-by, fed-good}
-use Rattle.host.proofs.Streams.{fedOn-counts, fedOn-taken, fedOn-full}
+use Rattle.streams.specs.Streams.{hosted, fedOn, hostRefusal, fed}
+use Rattle.streams.proofs.Kept.{fedOn-number, fed-by, fed-good}
+use Rattle.streams.proofs.Streams.{fedOn-counts, fedOn-taken, fedOn-full}
 use Rattle.report.proofs.Kept.{report-refused, report-good}
 use Rattle.promises.specs.Calls.{Call, host, key, post, report, called}
 use Rattle.promises.specs.Refusals.{HostKeeps, FreshRefusals, KeyRefusals, PostRefusals, HostRefusals, ReportRefusals, GoodShown, FreshGood, GoodStays}

@@ -20,7 +20,7 @@ use Rattle.terminal.specs.Noted.{differingRows, noted}
 use Rattle.terminal.proofs.Noted.{length-differingRows, noted-long, differingRows-none}
 use Rattle.key.specs.Keys.{enter, keyRefusal, Keyed, keyDone, keyed}
 use Rattle.post.specs.Posts.{postRefusal, postedTo}
-use Rattle.host.specs.Streams.{actionFor, readOn, steppedBy, stepped}
+use Rattle.streams.specs.Streams.{actionFor, readOn, steppedBy, stepped}
 use Rattle.promises.specs.Changes.{IsSet, RowDiffers}
 
 -- ---- two tests

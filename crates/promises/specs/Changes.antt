@@ -10,7 +10,7 @@ use Rattle.changes.specs.Sets.{rowsOf, countTrue}
 use Rattle.terminal.specs.declared.Terminal.{Terminal}
 use Rattle.terminal.specs.State.{World, flagged, Good, Sound}
 use Rattle.terminal.specs.Fresh.{freshened}
-use Rattle.host.specs.Streams.{stepped, fed}
+use Rattle.streams.specs.Streams.{stepped, fed}
 use Rattle.key.specs.Keys.{keyed}
 use Rattle.post.specs.Posts.{postedTo}
 use Rattle.report.specs.declared.ReportAnswer.{ReportAnswer}

@@ -5,6 +5,7 @@ use Rattle.mixing.specs.Mix.{MixedExactly}
 use Rattle.promises.specs.Refusals.{FreshRefusals, KeyRefusals, PostRefusals, HostRefusals, ReportRefusals, FreshGood, GoodStays}
 use Rattle.promises.specs.Once.{FreshOnce, KeyOnce, PostOnce, HostOnce, ReportOnce}
 use Rattle.promises.specs.Rooms.{KeyRooms, HostRooms, PartRooms}
+use Rattle.promises.specs.Readers.{ReadersAgree, BytesAgree, HostsAgree}
 use Rattle.promises.specs.Numbers.{FreshNumbers, KeyNumbers, PostNumbers, HostNumbers, ReportNumbers}
 use Rattle.promises.specs.Accepted.{PostWrites}
 use Rattle.promises.specs.Protected.{ProtectedStay}
@@ -52,6 +53,10 @@ pub record Promises (rows : ℕ) : Type 1 where
   -- of a lent reply buffer only the room counts
   pub key-rooms : KeyRooms rows
   pub host-rooms : HostRooms rows
+  -- the table and the plain decisions make the same of every byte, and so the two host calls leave the same of every stream
+  pub readers-agree : ReadersAgree
+  pub bytes-agree : BytesAgree rows
+  pub hosts-agree : HostsAgree rows
   -- document 01's own cases, with weights, clears and last places
   pub cases-hold : CasesHold rows
   -- session records and sessions of any bytes

@@ -6,7 +6,7 @@ use mathlib.Core.List.{List}
 use lib.ListN.{length}
 use Rattle.terminal.specs.State.{World}
 use Rattle.key.specs.Keys as Keys
-use Rattle.host.specs.Streams as Streams
+use Rattle.streams.specs.Streams as Streams
 use Rattle.records.specs.Records as Records
 
 -- `delivered` is all that a call leaves, with those bytes of the reply buffer alone that it wrote

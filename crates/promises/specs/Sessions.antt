@@ -9,7 +9,7 @@ use lib.ListN.{length, drop, getD}
 use lib.Dec.{eqb}
 use Rattle.cursor.specs.declared.Cursor.{Cursor}
 use Rattle.terminal.specs.State.{World, freshWorld, Good}
-use Rattle.host.specs.Streams.{stepped}
+use Rattle.streams.specs.Streams.{stepped}
 use Rattle.records.specs.declared.PartAnswer.{PartAnswer}
 use Rattle.records.specs.declared.RanAnswer.{RanAnswer}
 use Rattle.records.specs.Records.{kindOf, lengthOf, numberOf, dataOf, partLeft, recordPart, ran, ranLeft, emptied, recordRan}

@@ -1,32 +1,15 @@
--- What is true of every action: the table's test, the actions' and the reading states' ranges, ESC before everything. Assumes nothing.
-use mathlib.Core.Path.{_≡_, refl, _∙_, ap, ap₂}
+-- What is true of every action: the actions' and the reading states' ranges, ESC before everything. Assumes nothing.
+use mathlib.Core.Path.{_≡_, refl, _∙_, ap}
 use mathlib.Core.Bool.{Bool, true, false, cond, _||_}
-use mathlib.Core.List.{List}
-use Prim.Native.Nat.{ℕ, suc, _+_, _*_, _/_, _%_, _≤_, _<_}
+use Prim.Native.Nat.{ℕ, suc, _%_, _≤_, _<_}
 use native.Mathlib.Decide.{decLt}
 use native.Mathlib.Omega.{arith}
 use lib.Dec.{eqb, ltb}
-use lib.ListN.{length}
 use borrow.Author.Tests.{ne-eqb, eqb-true, eqb-false, ltb-true}
 use Rattle.reading.specs.declared.Number.{Number}
 use Rattle.reading.specs.Action.{rest, esc, toGroup, toSet, toCursor, toEnhance, toOther, plus, minus, digit, columnOn, rowOn, windowOn, stay}
-use Rattle.reading.specs.Reading.{Tabled, actionOf, actionAt, unbegun, settled, counted, clear, nextReading}
-use Rattle.reading.proofs.Computed.{allBelow, below, every, ruled}
-
--- entry k of a table is for reading state k / 128 and byte k % 128
-abbrev pub ruleAt : ℕ → ℕ
-ruleAt k = actionAt (k / 128) (k % 128)
-
--- a list of 896 entries that passes the computed test is a table of the rules
-pub tabled : {xs : List ℕ} → length xs ≡ 896 → every (λ k x. eqb x (ruleAt k)) 0 xs ≡ true → Tabled xs
-tabled {xs} long test =
-    record {
-      entry =
-          λ s b hs hb.
-          let row : (s * 128 + b) / 128 ≡ s = omega arith in
-          let column : (s * 128 + b) % 128 ≡ b = omega arith in
-          ruled ruleAt xs test (s * 128 + b) (omega arith) ∙ ap₂ actionAt row column;
-    }
+use Rattle.reading.specs.Reading.{actionOf, actionAt, unbegun, settled, counted, clear, nextReading}
+use Rattle.reading.proofs.Computed.{allBelow, below}
 
 -- every action of a reading state is one of the 62
 pub action-small : (s b : ℕ) → s < 7 → actionOf s b < 62

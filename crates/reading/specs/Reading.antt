@@ -4,14 +4,13 @@ use mathlib.Core.Path.{_≡_}
 use mathlib.Core.Bool.{Bool, true, false, cond, _&&_, _||_, not}
 use mathlib.Core.List.{List, [], _∷_}
 use Prim.Native.Nat.{ℕ, _+_, _-_, _*_, _%_, _≤_, _<_, min}
-use lib.ListN.{getD}
 use lib.Dec.{eqb, leb, ltb}
 use Rattle.cells.specs.Range.{within}
 use Rattle.reading.specs.declared.Number.{Number}
 use Rattle.reading.specs.Action.{rest, esc, ack, left, tab, lineFeed, column0, trigger, text, up, down, right, home, homeAll, homeDown, backTab, clearDisplay, clearLine, insertRow, deleteRow, deleteChar, insertOn, insertOff, rollUp, rollDown, nextPage, prevPage, formatOn, formatOff, setTab, clearTab, clearTabs, mark1, mark4, mark5, turn2, turn3, turn1, askAbsolute, askWindow, askStatus, askBlock, lockOff, lockOn, softReset, hardReset, toGroup, toSet, toCursor, toEnhance, toOther, plus, minus, digit, columnOn, columnEnd, rowOn, rowEnd, windowOn, windowEnd, stay, enhance}
 
--- the action that a list of byte and action has beside byte b, or `other` where it does not list b
-abbrev pub listed : List (ℕ × ℕ) → ℕ → ℕ → ℕ
+-- what a list has beside byte b, such as an action, or `other` where it does not list b
+abbrev pub listed : {A : Type 0} → List (ℕ × A) → A → ℕ → A
 listed [] other b = other
 listed (row ∷ rows) other b = cond (eqb b (row .0)) (row .1) (listed rows other b)
 
@@ -106,10 +105,6 @@ actionAt s b = cond (eqb b 27) esc (inState s b)
 -- the action of a byte in reading state s: a byte counts modulo 128
 unfoldable pub actionOf : ℕ → ℕ → ℕ
 actionOf s byte = actionAt s (byte % 128)
-
--- a table of 896 entries that equals the rules at each entry
-pub record Tabled (table : List ℕ) : Type 0 where
-  pub entry : (s b : ℕ) → s < 7 → b < 128 → getD table (s * 128 + b) 0 ≡ actionAt s b
 
 -- ---- the number being read: sign 0 none, 1 plus, 2 minus; whether a digit came; a value of 0 to 999
 abbrev pub clear : Number

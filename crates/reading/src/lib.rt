@@ -1,9 +1,7 @@
-// Reading host bytes: the table of 896 actions, the number being read, the next reading state.
+// Reading host bytes: the actions, numbered, the number being read, the next reading state.
 ghost use mathlib.Core.Path.{_≡_};
 ghost use Prim.Native.Nat.{_+_, _-_, _*_, _≤_, _<_, min};
-ghost use Rattle.reading.specs.Reading.{Tabled, actionOf, unbegun, settled, counted, nextReading, soundNumber};
-
-mod table;
+ghost use Rattle.reading.specs.Reading.{unbegun, settled, counted, nextReading, soundNumber};
 
 // The actions, numbered.
 pub const REST: u8 = 0;
@@ -129,22 +127,6 @@ pub const WINDOW_END: u8 = 59;
 pub const STAY: u8 = 60;
 
 pub const ENHANCE: u8 = 61;
-
-// The table, to be lent to `action`: named once for a whole stream, since naming it copies it.
-pub fn actions() -> [u8; 896]
-    ensures { λ r. ⌜ Tabled r ⌝ }
-{
-    table::ACTIONS
-}
-
-// The action of a byte in a reading state.
-pub fn action(table: &[u8; 896], reading: u8, byte: u8) -> u8
-    requires { ⌜ reading < 7 ⌝ ∗ ⌜ Tabled (now table) ⌝ }
-    ensures { λ r. ⌜ r ≡ actionOf reading byte ⌝ }
-{
-    let at = (reading as usize) * 128 + (byte % 128) as usize;
-    table[at]
-}
 
 // The reading state after a settled action.
 pub fn next_reading(a: u8) -> u8

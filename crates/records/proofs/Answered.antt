@@ -9,7 +9,7 @@ use Rattle.reading.proofs.Rules.{either}
 use Rattle.terminal.specs.State.{World, Good, Sound}
 use Rattle.key.proofs.Kept.{key-sound, key-good}
 use Rattle.post.proofs.Kept.{post-sound, post-good}
-use Rattle.host.proofs.Kept.{fed-sound, fed-good}
+use Rattle.streams.proofs.Kept.{fed-sound, fed-good}
 use Rattle.records.specs.Records.{kindOf, numberOf, dataOf, formRefusal, Part, hostPart, keyPart, postPart, recordPart, Ran, ran, emptied, ranFrom, recordRan}
 use Rattle.records.proofs.Whole.{emptied-long, whole-last}
 

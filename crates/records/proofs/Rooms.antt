@@ -8,8 +8,8 @@ use Rattle.cells.proofs.Choices.{choose-both}
 use Rattle.terminal.specs.State.{World}
 use Rattle.key.specs.Keys.{Keyed}
 use Rattle.key.proofs.Rooms.{keyed-room}
-use Rattle.host.specs.Streams.{Hosted}
-use Rattle.host.proofs.Rooms.{fed-room}
+use Rattle.streams.specs.Streams.{Hosted}
+use Rattle.streams.proofs.Rooms.{fed-room}
 use Rattle.records.specs.Records.{kindOf, numberOf, dataOf, formRefusal, Part, part, delivered, hostPart, keyPart, postPart, recordPart}
 
 -- the two calls answer, leave and send the same

@@ -10,9 +10,9 @@ use borrow.Author.Tests.{eq-eqb, ne-eqb}
 use Rattle.reading.proofs.Rules.{either}
 use Rattle.terminal.specs.State.{World}
 use Rattle.key.proofs.Kept.{key-counts}
-use Rattle.host.specs.Streams.{Hosted, fed}
-use Rattle.host.proofs.Kept.{fed-by}
-use Rattle.host.proofs.Streams.{fedOn-counts}
+use Rattle.streams.specs.Streams.{Hosted, fed}
+use Rattle.streams.proofs.Kept.{fed-by}
+use Rattle.streams.proofs.Streams.{fedOn-counts}
 use Rattle.records.specs.Records.{kindOf, numberOf, dataOf, formRefusal, Part, part, hostPart, keyPart, postPart, recordPart}
 
 module _ (rows : ℕ) (w : World) (r : List ℕ) (at : ℕ) (reply : List ℕ) where

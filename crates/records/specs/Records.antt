@@ -9,7 +9,7 @@ use Rattle.terminal.specs.State.{World, world}
 use Rattle.terminal.specs.Refusals.{_when_, firstRefusal}
 use Rattle.key.specs.Keys.{keyed}
 use Rattle.post.specs.Posts.{postedTo}
-use Rattle.host.specs.Streams.{fed}
+use Rattle.streams.specs.Streams.{fed}
 use Rattle.records.specs.declared.PartAnswer.{PartAnswer}
 use Rattle.records.specs.declared.RanAnswer.{RanAnswer}
 

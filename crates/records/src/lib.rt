@@ -1,9 +1,12 @@
-// Session records: a record of 84 bytes is read and run on a terminal. `rows` is the number of rows of its memory, 24 to 96.
+// Session records: a record of 84 bytes is read and run on a terminal. `rows` is the number of rows of its memory, 24 to 96; `is_plain` is for the plain reader of host
+// bytes, else the table reads them: what comes out is the same.
 ghost use mathlib.Core.Path.{_≡_};
 ghost use Prim.Native.Nat.{_+_, _*_, _≤_, _<_};
 ghost use lib.ListN.{length, drop};
 ghost use Rattle.terminal.specs.State.{world};
+ghost use Rattle.streams.specs.Streams.{hostLeft, fed};
 ghost use Rattle.records.specs.Records.{numberOf, zeros, kindFits, formRefusal, partLeft, hostPart, keyPart, postPart, recordPart, ranLeft, recordRan};
+use streams::HostAnswer;
 use terminal::Terminal;
 
 // The number, the data byte to go on from, the bytes written to the reply, and the state afterwards.
@@ -77,6 +80,25 @@ fn refuse_form(bytes: &[u8]) -> u8
     if is_zero(bytes, 4 + size) { 0 } else { 11 }
 }
 
+// Host bytes, read by either reader.
+fn feed(
+    t: Terminal,
+    rows: usize,
+    chars: &mut [u8],
+    attrs: &mut [u8],
+    bytes: &[u8],
+    reply: &mut [u8],
+    is_plain: bool,
+) -> HostAnswer
+    requires { ⌜ (24 ≤ rows) × (rows ≤ 96) ⌝ }
+    ensures { λ r. ⌜ hostLeft r (now (chars .exit)) (now (attrs .exit)) (now (reply .exit)) ≡ fed rows (world t (now (chars .entry)) (now (attrs .entry))) (now (bytes .entry)) (now (reply .entry)) ⌝ }
+{
+    if is_plain {
+        return plain::host_on(t, rows, chars, attrs, bytes, reply);
+    }
+    host::host_on(t, rows, chars, attrs, bytes, reply)
+}
+
 // Host bytes from byte `at` on, as far as the reply buffer goes.
 fn run_host(
     t: Terminal,
@@ -86,12 +108,13 @@ fn run_host(
     bytes: &[u8],
     at: usize,
     reply: &mut [u8],
+    is_plain: bool,
 ) -> PartAnswer
     requires { ⌜ (24 ≤ rows) × (rows ≤ 96) ⌝ }
     ensures { λ r. ⌜ partLeft r (now (chars .exit)) (now (attrs .exit)) (now (reply .exit)) ≡ hostPart rows (world t (now (chars .entry)) (now (attrs .entry))) (now (bytes .entry)) at (now (reply .entry)) ⌝ }
 {
     let from = cells::least(at, bytes.len());
-    let a = host::host_on(t, rows, chars, attrs, &bytes[from..], reply);
+    let a = feed(t, rows, chars, attrs, &bytes[from..], reply, is_plain);
     let state = a.state;
     PartAnswer {
         number: a.number,
@@ -156,6 +179,7 @@ pub fn run_from_on(
     bytes: &[u8],
     at: usize,
     reply: &mut [u8],
+    is_plain: bool,
 ) -> PartAnswer
     requires { ⌜ (24 ≤ rows) × (rows ≤ 96) ⌝ }
     ensures { λ r. ⌜ partLeft r (now (chars .exit)) (now (attrs .exit)) (now (reply .exit)) ≡ recordPart rows (world t (now (chars .entry)) (now (attrs .entry))) (now (bytes .entry)) at (now (reply .entry)) ⌝ }
@@ -173,7 +197,7 @@ pub fn run_from_on(
     let number = number_of(bytes);
     let end = 4 + bytes[1] as usize;
     if kind == 72 {
-        return run_host(t, rows, chars, attrs, &bytes[4..end], at, reply);
+        return run_host(t, rows, chars, attrs, &bytes[4..end], at, reply, is_plain);
     }
     if kind == 75 {
         return run_key(t, rows, chars, attrs, (number % 65536) as u16, at, reply);
@@ -192,7 +216,7 @@ pub fn run_from(
 ) -> PartAnswer
     ensures { λ r. ⌜ partLeft r (now (chars .exit)) (now (attrs .exit)) (now (reply .exit)) ≡ recordPart 96 (world t (now (chars .entry)) (now (attrs .entry))) (now (bytes .entry)) at (now (reply .entry)) ⌝ }
 {
-    run_from_on(t, 96, chars, attrs, bytes, at, reply)
+    run_from_on(t, 96, chars, attrs, bytes, at, reply, false)
 }
 
 // `run_from` in a memory of 48 rows.
@@ -206,7 +230,7 @@ pub fn run_from_48(
 ) -> PartAnswer
     ensures { λ r. ⌜ partLeft r (now (chars .exit)) (now (attrs .exit)) (now (reply .exit)) ≡ recordPart 48 (world t (now (chars .entry)) (now (attrs .entry))) (now (bytes .entry)) at (now (reply .entry)) ⌝ }
 {
-    run_from_on(t, 48, chars, attrs, bytes, at, reply)
+    run_from_on(t, 48, chars, attrs, bytes, at, reply, false)
 }
 
 // One whole session record: its answer, and its reply bytes added up. `reply` is lent with room for the longest reply; what it holds does not matter.
@@ -217,6 +241,7 @@ pub fn run_on(
     attrs: &mut [u8],
     bytes: &[u8],
     reply: &mut [u8],
+    is_plain: bool,
 ) -> RanAnswer
     requires { ⌜ (24 ≤ rows) × (rows ≤ 96) × (length (now reply) ≡ rows * 160) ⌝ }
     ensures { λ r. ⌜ ranLeft r (now (chars .exit)) (now (attrs .exit)) ≡ recordRan rows (world t (now (chars .entry)) (now (attrs .entry))) (now (bytes .entry)) ⌝ }
@@ -226,7 +251,7 @@ pub fn run_on(
     let mut sum = 0;
     let mut calls: usize = 81;
     while 0 < calls {
-        let a = run_from_on(u, rows, chars, attrs, bytes, at, reply);
+        let a = run_from_on(u, rows, chars, attrs, bytes, at, reply, is_plain);
         let state = a.state;
         u = state;
         at = a.at;
@@ -252,7 +277,7 @@ pub fn run(t: Terminal, chars: &mut [u8], attrs: &mut [u8], bytes: &[u8]) -> Ran
     ensures { λ r. ⌜ ranLeft r (now (chars .exit)) (now (attrs .exit)) ≡ recordRan 96 (world t (now (chars .entry)) (now (attrs .entry))) (now (bytes .entry)) ⌝ }
 {
     let mut reply = [0u8; 15360];
-    run_on(t, 96, chars, attrs, bytes, &mut reply)
+    run_on(t, 96, chars, attrs, bytes, &mut reply, false)
 }
 
 // `run` in a memory of 48 rows.
@@ -260,5 +285,5 @@ pub fn run_48(t: Terminal, chars: &mut [u8], attrs: &mut [u8], bytes: &[u8]) -> 
     ensures { λ r. ⌜ ranLeft r (now (chars .exit)) (now (attrs .exit)) ≡ recordRan 48 (world t (now (chars .entry)) (now (attrs .entry))) (now (bytes .entry)) ⌝ }
 {
     let mut reply = [0u8; 7680];
-    run_on(t, 48, chars, attrs, bytes, &mut reply)
+    run_on(t, 48, chars, attrs, bytes, &mut reply, false)
 }

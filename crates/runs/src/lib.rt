@@ -5,7 +5,8 @@ ghost use mathlib.Core.Bool.{true};
 ghost use lib.ListN.{length, getD, drop};
 ghost use Rattle.cursor.specs.Cursor.{InPlace};
 ghost use Rattle.fields.specs.Fields.{endOfRow};
-ghost use Rattle.reading.specs.Reading.{Tabled, clear, settled, counted, nextReading, SoundNumber};
+ghost use Rattle.reading.specs.Reading.{clear, settled, counted, nextReading, SoundNumber};
+ghost use Rattle.table.specs.Table.{Tabled};
 ghost use Rattle.runs.specs.Texts.{isText, Copied};
 ghost use Rattle.runs.specs.Sequences.{reader, turned, followed};
 use cursor::Cursor;
@@ -156,7 +157,7 @@ pub fn follow(
     while r.at < bytes.len() {
         let i = r.at;
         let byte = bytes[i];
-        let a = reading::action(table, r.reading, byte);
+        let a = table::action(table, r.reading, byte);
         let q = turn(r, rows, a, byte % 128, i + 1);
         if q.at == i {
             return r;

@@ -1,4 +1,5 @@
-// Sessions: records of 84 bytes, run one after the other, and the lines that they print. `rows` is the number of rows of the terminal's memory, 24 to 96.
+// Sessions: records of 84 bytes, run one after the other, and the lines that they print. `rows` is the number of rows of the terminal's memory, 24 to 96; `is_plain` is
+// for the plain reader of host bytes, else the table reads them: what comes out is the same.
 ghost use mathlib.Core.Path.{_≡_};
 ghost use mathlib.Core.List.{[], _∷_, _++_};
 ghost use Prim.Native.Nat.{_+_, _*_, _≤_};
@@ -66,6 +67,7 @@ fn run_each(
     bytes: &[u8],
     lines: &mut [u8],
     reply: &mut [u8],
+    is_plain: bool,
 ) -> LinesAnswer
     requires { ⌜ (24 ≤ rows) × (rows ≤ 96) × (length (now reply) ≡ rows * 160) ⌝ }
     ensures { λ r. ⌜ linesLeft r (now (chars .exit)) (now (attrs .exit)) (now (lines .exit)) ≡ recordsRun rows (world t (now (chars .entry)) (now (attrs .entry))) number (now (bytes .entry)) (now (lines .entry)) ⌝ }
@@ -84,7 +86,7 @@ fn run_each(
             };
         }
         let end = at + cells::least(84, bytes.len() - at);
-        let a = records::run_on(u, rows, chars, attrs, &bytes[at..end], reply);
+        let a = records::run_on(u, rows, chars, attrs, &bytes[at..end], reply, is_plain);
         to = write_three(lines, to, n, a.answer as u64, a.replied as u64);
         let state = a.state;
         u = state;
@@ -111,6 +113,7 @@ pub fn run_records_on(
     number: u64,
     bytes: &[u8],
     lines: &mut [u8],
+    is_plain: bool,
 ) -> LinesAnswer
     requires { ⌜ (24 ≤ rows) × (rows ≤ 96) ⌝ }
     ensures { λ r. ⌜ linesLeft r (now (chars .exit)) (now (attrs .exit)) (now (lines .exit)) ≡ recordsRun rows (world t (now (chars .entry)) (now (attrs .entry))) number (now (bytes .entry)) (now (lines .entry)) ⌝ }
@@ -125,6 +128,7 @@ pub fn run_records_on(
         bytes,
         lines,
         &mut reply[..rows * 160],
+        is_plain,
     )
 }
 
@@ -139,7 +143,7 @@ pub fn run_records(
 ) -> LinesAnswer
     ensures { λ r. ⌜ linesLeft r (now (chars .exit)) (now (attrs .exit)) (now (lines .exit)) ≡ recordsRun 96 (world t (now (chars .entry)) (now (attrs .entry))) number (now (bytes .entry)) (now (lines .entry)) ⌝ }
 {
-    run_records_on(t, 96, chars, attrs, number, bytes, lines)
+    run_records_on(t, 96, chars, attrs, number, bytes, lines, false)
 }
 
 // `run_records` in a memory of 48 rows.
@@ -153,7 +157,7 @@ pub fn run_records_48(
 ) -> LinesAnswer
     ensures { λ r. ⌜ linesLeft r (now (chars .exit)) (now (attrs .exit)) (now (lines .exit)) ≡ recordsRun 48 (world t (now (chars .entry)) (now (attrs .entry))) number (now (bytes .entry)) (now (lines .entry)) ⌝ }
 {
-    run_records_on(t, 48, chars, attrs, number, bytes, lines)
+    run_records_on(t, 48, chars, attrs, number, bytes, lines, false)
 }
 
 // The end line, the word `end` and the cursor's row, column and the window's top, to the start of `line`; how many bytes it has. Nothing is written, and 0 is

@@ -8,10 +8,10 @@ use Rattle.chunks.proofs.answer.Statement.{statement}
 use Rattle.chunks.proofs.answer.Tie as tie
 
 abbrev Inv-loop : tie.InvT-loop
-Inv-loop page₀ rows chars₀ attrs₀ bytes lines₀ q₀ at₀ calls₀ page chars attrs lines q at calls = (at ≤ length bytes) × (length chars ≡ length chars₀) × (length attrs ≡ length attrs₀) × (length lines ≡ length lines₀)
+Inv-loop page₀ rows chars₀ attrs₀ bytes lines₀ is-plain q₀ at₀ calls₀ page chars attrs lines q at calls = (at ≤ length bytes) × (length chars ≡ length chars₀) × (length attrs ≡ length attrs₀) × (length lines ≡ length lines₀)
 
 abbrev μ-loop : tie.MeasureT-loop
-μ-loop page₀ rows chars₀ attrs₀ bytes lines₀ q₀ at₀ calls₀ page chars attrs lines q at calls = calls
+μ-loop page₀ rows chars₀ attrs₀ bytes lines₀ is-plain q₀ at₀ calls₀ page chars attrs lines q at calls = calls
 
 pub answer-spec : {M : Type 1} → statement M
 answer-spec =

@@ -1,7 +1,7 @@
 -- `host::feed_on` meets its contract. The loop's invariant: the world is sound, the bytes sent fit, and the bytes left, run from here, leave what all bytes leave from the start.
 -- A run of text, the bytes of sequences, and any other byte each keep it. The measure is what is left of the bytes. Assumes nothing.
-use Rattle.host.proofs.Streams.{fedOn-turn, fedOn-stop, fedOn-end}
-use Rattle.host.proofs.Kept.{stepped-by-sound, sound-by}
+use Rattle.streams.proofs.Streams.{fedOn-turn, fedOn-stop, fedOn-end}
+use Rattle.streams.proofs.Kept.{stepped-by-sound, sound-by}
 use Rattle.host.proofs.Runs.{free-in, text-turn}
 use Rattle.host.proofs.Sequences.{follow-on}
 use Rattle.changes.specs.Sets.{rowsOf}
@@ -15,7 +15,7 @@ use native.Mathlib.Omega.{arith}
 use mathlib.Core.Path.{_≡_, refl, sym, ap, _∙_}
 use Prim.Native.Nat.{ℕ, _+_, _-_, _≤_}
 use Rattle.terminal.specs.State.{world, Sound}
-use Rattle.host.specs.Streams.{replyTo, hosted, fedOn}
+use Rattle.streams.specs.Streams.{replyTo, hosted, fedOn}
 use Rattle.host.proofs.feed_on.Statement.{statement}
 use Rattle.host.proofs.feed_on.Tie as tie
 

@@ -1,6 +1,6 @@
 -- `host::step` meets its contract: the action, then the reading state and the number after it. Assumes nothing.
-use Rattle.host.specs.Streams.{readOn, steppedBy}
-use Rattle.host.proofs.Kept.{sound-by}
+use Rattle.streams.specs.Streams.{readOn, steppedBy}
+use Rattle.streams.proofs.Kept.{sound-by}
 use Rattle.terminal.proofs.Kept.{acted-sound}
 use Rattle.terminal.proofs.Noted.{noted-sound}
 use Rattle.terminal.specs.declared.Terminal.{Terminal}

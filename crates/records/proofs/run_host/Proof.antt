@@ -1,4 +1,4 @@
--- `records::run_host` meets its contract: what the call of `host` on the bytes from `at` on leaves. Assumes nothing.
+-- `records::run_host` meets its contract: what either reader leaves of the bytes from `at` on leaves. Assumes nothing.
 use Prim.Native.Nat.{ℕ, _+_}
 use mathlib.Core.Path.{ap, _∙_}
 use mathlib.Core.List.{List}
@@ -6,7 +6,7 @@ use native.Mathlib.Omega.{arith}
 use lib.ListN.{drop, length-drop}
 use borrow.Author.Needs.{needs}
 use Rattle.terminal.specs.State.{world}
-use Rattle.host.specs.Streams.{Hosted, fed}
+use Rattle.streams.specs.Streams.{Hosted, fed}
 use Rattle.records.specs.Records.{part, hostPart}
 use Rattle.records.proofs.Running.{from-on, fed-within}
 use Rattle.records.proofs.run_host.Statement.{statement}
@@ -22,8 +22,8 @@ run-host-spec =
     (λ c. search needs)
     (λ c. search needs)
     (λ c κs. search needs)
-    (λ c. let h = c .before .before .before .before .before .before .before .before in let s = h .before .before .before .before .before .before .before .before .before .before in let a = s .args in let w = world (a .t) (a .chars .now) (a .attrs .now) in let b = a .bytes .now in let e = h .host-on .ensures ∙ ap (λ (p : List ℕ). fed (a .rows) w p (a .reply .now)) (from-on b (a .at) (h .before .before .before .before .before .least .ensures)) in omega (arith, fed-within (a .rows) w (drop (a .at) b) (a .reply .now) .taken-in, ap (λ (k : Hosted). k .taken) e, length-drop (a .at) b, s .good .1 .1 .1 .0 .0, s .fits .at))
+    (λ c. let h = c .before .before .before .before .before .before .before .before in let s = h .before .before .before .before .before .before .before .before .before .before in let a = s .args in let w = world (a .t) (a .chars .now) (a .attrs .now) in let b = a .bytes .now in let e = h .feed .ensures ∙ ap (λ (p : List ℕ). fed (a .rows) w p (a .reply .now)) (from-on b (a .at) (h .before .before .before .before .before .least .ensures)) in omega (arith, fed-within (a .rows) w (drop (a .at) b) (a .reply .now) .taken-in, ap (λ (k : Hosted). k .taken) e, length-drop (a .at) b, s .good .1 .1 .1 .0 .0, s .fits .at))
     (λ c. search needs)
     (λ c. search needs)
     (λ c. search needs)
-    (λ c. let h = c .before .before .before .before .before .before .before .before in let a = h .before .before .before .before .before .before .before .before .before .before .args in let w = world (a .t) (a .chars .now) (a .attrs .now) in let b = a .bytes .now in let e = h .host-on .ensures ∙ ap (λ (p : List ℕ). fed (a .rows) w p (a .reply .now)) (from-on b (a .at) (h .before .before .before .before .before .least .ensures)) in ap (λ (k : Hosted). part (k .number) (a .at + k .taken) (k .written) (k .world) (k .reply)) e))
+    (λ c. let h = c .before .before .before .before .before .before .before .before in let a = h .before .before .before .before .before .before .before .before .before .before .args in let w = world (a .t) (a .chars .now) (a .attrs .now) in let b = a .bytes .now in let e = h .feed .ensures ∙ ap (λ (p : List ℕ). fed (a .rows) w p (a .reply .now)) (from-on b (a .at) (h .before .before .before .before .before .least .ensures)) in ap (λ (k : Hosted). part (k .number) (a .at + k .taken) (k .written) (k .world) (k .reply)) e))

@@ -12,12 +12,12 @@ use Rattle.records.proofs.run_on.Statement.{statement}
 use Rattle.records.proofs.run_on.Tie as tie
 
 abbrev Inv-loop : tie.InvT-loop
-Inv-loop rows chars₀ attrs₀ r reply₀ u₀ at₀ sum₀ calls₀ chars attrs reply u at sum calls =
+Inv-loop rows chars₀ attrs₀ r reply₀ is-plain u₀ at₀ sum₀ calls₀ chars attrs reply u at sum calls =
     (sum ≤ (81 - calls) * 15360) × (calls ≤ 81) × (length chars ≡ length chars₀) × (length attrs ≡ length attrs₀) × (length reply ≡ length reply₀)
     × (ranFrom rows calls (world u chars attrs) r at sum ≡ recordRan rows (world u₀ chars₀ attrs₀) r)
 
 abbrev μ-loop : tie.MeasureT-loop
-μ-loop rows chars₀ attrs₀ r reply₀ u₀ at₀ sum₀ calls₀ chars attrs reply u at sum calls = calls
+μ-loop rows chars₀ attrs₀ r reply₀ is-plain u₀ at₀ sum₀ calls₀ chars attrs reply u at sum calls = calls
 
 pub run-on-spec : {M : Type 1} → statement M
 run-on-spec =

@@ -12,12 +12,12 @@ use Rattle.sessions.proofs.run_each.Statement.{statement}
 use Rattle.sessions.proofs.run_each.Tie as tie
 
 abbrev Inv-loop : tie.InvT-loop
-Inv-loop rows chars₀ attrs₀ number bytes lines₀ reply₀ u₀ n₀ at₀ to₀ chars attrs lines reply u n at to =
+Inv-loop rows chars₀ attrs₀ number bytes lines₀ reply₀ is-plain u₀ n₀ at₀ to₀ chars attrs lines reply u n at to =
     (at ≤ length bytes) × (to ≤ length lines) × (n ≤ 18446744073709551615) × (length chars ≡ length chars₀) × (length attrs ≡ length attrs₀) × (length lines ≡ length lines₀) × (length reply ≡ length reply₀)
     × (batchOn rows (split (drop at bytes)) at to n (world u chars attrs) lines ≡ recordsRun rows (world u₀ chars₀ attrs₀) number bytes lines₀)
 
 abbrev μ-loop : tie.MeasureT-loop
-μ-loop rows chars₀ attrs₀ number bytes lines₀ reply₀ u₀ n₀ at₀ to₀ chars attrs lines reply u n at to = length bytes - at
+μ-loop rows chars₀ attrs₀ number bytes lines₀ reply₀ is-plain u₀ n₀ at₀ to₀ chars attrs lines reply u n at to = length bytes - at
 
 pub run-each-spec : {M : Type 1} → statement M
 run-each-spec =

@@ -1,0 +1,3 @@
+-- The laws of the decisions.
+pub mod Listed
+pub mod Agreement

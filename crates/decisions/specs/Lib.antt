@@ -1,0 +1,2 @@
+-- The definition of the plain reader.
+pub mod Decisions

@@ -1,0 +1,2 @@
+-- The laws of a host stream by the plain decisions.
+pub mod Agreement

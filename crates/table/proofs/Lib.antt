@@ -1,0 +1,2 @@
+-- The laws of a table of the actions.
+pub mod Test

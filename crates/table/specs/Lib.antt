@@ -1,0 +1,2 @@
+-- The definition of a table of the actions.
+pub mod Table
