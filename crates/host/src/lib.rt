@@ -1,7 +1,6 @@
 // The call for host bytes.
 ghost use mathlib.Core.Path.{_≡_};
 ghost use Prim.Native.Nat.{_≤_, _<_};
-ghost use mathlib.Core.Bool.{true};
 ghost use Rattle.streams.specs.Streams.{actionFor, readOn, steppedBy, hostLeft, fedOn, fed};
 ghost use Rattle.table.specs.Table.{Tabled};
 ghost use Rattle.terminal.specs.State.{world, Sound};
@@ -127,17 +126,10 @@ pub fn host_on(
     requires { ⌜ (24 ≤ rows) × (rows ≤ 96) ⌝ }
     ensures { λ r. ⌜ hostLeft r (now (chars .exit)) (now (attrs .exit)) (now (reply .exit)) ≡ fed rows (world t (now (chars .entry)) (now (attrs .entry))) (now (bytes .entry)) (now (reply .entry)) ⌝ }
 {
-    if !terminal::is_sized(rows, chars, attrs) {
+    let n = streams::refuse(t, rows, chars, attrs);
+    if n != 0 {
         return HostAnswer {
-            number: 1,
-            taken: 0,
-            written: 0,
-            state: t,
-        };
-    }
-    if !t.is_good(rows) {
-        return HostAnswer {
-            number: 2,
+            number: n,
             taken: 0,
             written: 0,
             state: t,

@@ -71,17 +71,10 @@ pub fn host_on(
     ensures { λ r. ⌜ hostLeft r (now (chars .exit)) (now (attrs .exit)) (now (reply .exit)) ≡ fed rows (world t (now (chars .entry)) (now (attrs .entry))) (now (bytes .entry)) (now (reply .entry)) ⌝ }
     ensures { λ r. ⌜ hostLeft r (now (chars .exit)) (now (attrs .exit)) (now (reply .exit)) ≡ plainlyFed rows (world t (now (chars .entry)) (now (attrs .entry))) (now (bytes .entry)) (now (reply .entry)) ⌝ }
 {
-    if !terminal::is_sized(rows, chars, attrs) {
+    let n = streams::refuse(t, rows, chars, attrs);
+    if n != 0 {
         return HostAnswer {
-            number: 1,
-            taken: 0,
-            written: 0,
-            state: t,
-        };
-    }
-    if !t.is_good(rows) {
-        return HostAnswer {
-            number: 2,
+            number: n,
             taken: 0,
             written: 0,
             state: t,

@@ -13,7 +13,7 @@ pub fn session() {
     if a.is_bad {
         io::write_all(
             STDERR_FILENO,
-            b"usage: session [48] [plain] [FILE..]\nRuns session records, of standard input where no FILE is named, and prints the answer to each, from a terminal of 96 rows or, with 48, of 48.\nWith plain the host bytes are read by plain decisions and not by the table: the output is the same.\nWrite ./48 for a FILE named 48, ./-x for one named -x.\n",
+            b"usage: session [48] [plain] [FILE..]\nRuns session records, of standard input where no FILE is named, and prints the answer to each, from a terminal of 96 rows or, with 48, of 48.\nWith plain the host bytes are read by plain decisions and not by the table: the output is the same.\nWrite ./48 for a FILE named 48, ./plain for one named plain, ./-x for one named -x.\n",
         );
     } else {
         run_all(a);

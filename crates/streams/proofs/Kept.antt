@@ -7,6 +7,7 @@ use mathlib.Core.Logic.{_⊎_, inl, inr, ⊎-elim}
 use native.Mathlib.Omega.{arith}
 use lib.ListN.{length}
 use lib.Dec.{leb, eqb}
+use borrow.Author.Tests.{ne-eqb}
 use Rattle.reading.specs.Reading.{actionOf}
 use Rattle.reading.proofs.Rules.{action-small, settled-small, next-small, either}
 use Rattle.reading.proofs.Numbers.{sound-kept}
@@ -71,15 +72,20 @@ fed-by P rows w bytes reply read left = go (isSized rows (w .chars) (w .attrs)) 
     go true false on = left 2 (inr refl)
     go false g on = left 1 (inl refl)
 
--- the two refusals of a call
-module _ (rows : ℕ) (w : World) (bytes reply : List ℕ) where
-  pub fed-unsized : isSized rows (w .chars) (w .attrs) ≡ false → fed rows w bytes reply ≡ hosted 1 0 0 w reply
-  unfolding fed hostRefusal firstRefusal
-  fed-unsized s = rw s
+-- a call by the number of its refusal: one that is not 0 leaves all, and where it is 0 the world is sound
+module _ (rows : ℕ) (w : World) where
+  pub refused-by : (bytes reply : List ℕ) {n : ℕ} → n ≡ hostRefusal rows w → (n ≡ 0 → ⊥) → hosted n 0 0 w reply ≡ fed rows w bytes reply
+  unfolding fed
+  refused-by bytes reply {n} e other = rw (← e, ne-eqb n 0 other)
 
-  pub fed-bad : isSized rows (w .chars) (w .attrs) ≡ true → isGood rows (w .state) ≡ false → fed rows w bytes reply ≡ hosted 2 0 0 w reply
-  unfolding fed hostRefusal firstRefusal
-  fed-bad s g = rw (s, g)
+  pub unrefused : rows ≤ 96 → hostRefusal rows w ≡ 0 → Sound rows w
+  unfolding hostRefusal firstRefusal
+  unrefused few e = go (isSized rows (w .chars) (w .attrs)) (isGood rows (w .state)) refl refl e
+    where
+      go : (s g : Bool) → isSized rows (w .chars) (w .attrs) ≡ s → isGood rows (w .state) ≡ g → _≡_ {A = ℕ} (cond (not s) 1 (cond (not g) 2 0)) 0 → Sound rows w
+      go true true p q _ = sound-in few p q
+      go true false p q e = absurd (omega arith)
+      go false g p q e = absurd (omega arith)
 
 pub fed-good : (rows : ℕ) (w : World) (bytes reply : List ℕ) → rows ≤ 96 → Good rows (w .state) → Good rows (fed rows w bytes reply .world .state)
 fed-good rows w bytes reply f g =

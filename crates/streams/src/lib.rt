@@ -1,11 +1,11 @@
-// Host streams: what a byte sends, and the answer to a stream.
+// Host streams: when one is refused, what a byte sends, and the answer.
 ghost use mathlib.Core.Path.{_≡_};
 ghost use Prim.Native.Nat.{_+_, _≤_};
 ghost use lib.ListN.{length};
 ghost use lib.Dec.{leb};
 ghost use Rattle.cells.specs.Memory.{written};
 ghost use Rattle.terminal.specs.State.{world, Sound};
-ghost use Rattle.streams.specs.Streams.{pendingReply, replyTo};
+ghost use Rattle.streams.specs.Streams.{pendingReply, replyTo, hostRefusal};
 use terminal::Terminal;
 
 // The number, the bytes taken, the bytes written to the reply, and the state afterwards.
@@ -14,6 +14,20 @@ pub struct HostAnswer {
     pub taken: usize,
     pub written: usize,
     pub state: Terminal,
+}
+
+// 0 for a stream that is read, 1 for memories of another size, 2 for a state that is not good.
+pub fn refuse(t: Terminal, rows: usize, chars: &[u8], attrs: &[u8]) -> u8
+    requires { ⌜ (24 ≤ rows) × (rows ≤ 96) ⌝ }
+    ensures { λ r. ⌜ r ≡ hostRefusal rows (world t (now (chars .entry)) (now (attrs .entry))) ⌝ }
+{
+    if !terminal::is_sized(rows, chars, attrs) {
+        return 1;
+    }
+    if !t.is_good(rows) {
+        return 2;
+    }
+    0
 }
 
 // How many bytes the pending transfer sends.
