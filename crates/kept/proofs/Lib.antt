@@ -2,4 +2,5 @@
 pub mod Sparing
 pub mod Witness
 pub mod Example
+pub mod Noise
 pub mod Kept

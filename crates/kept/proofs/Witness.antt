@@ -134,7 +134,7 @@ differ-by : {A : Type 0} (f : A → ℕ) {x y : A} → eqb (f x) (f y) ≡ false
 differ-by f {x} {y} t e = eqb-false (f x) (f y) t (ap f e)
 
 -- the character of a cell
-cell-differs : (k : ℕ) {xs ys : List ℕ} → eqb (getD xs k 0) (getD ys k 0) ≡ false → ¬ (xs ≡ ys)
+pub cell-differs : (k : ℕ) {xs ys : List ℕ} → eqb (getD xs k 0) (getD ys k 0) ≡ false → ¬ (xs ≡ ys)
 cell-differs k = differ-by (λ (l : List ℕ). getD l k 0)
 
 clash : {rows : ℕ} {A : Type 0} {part : World → A} → Sound rows (form rows) → form rows .state .format ≡ true → (k : Key) → eqb (k .code) 273 ≡ false → Reach k (form rows) (tag .field)

@@ -7,6 +7,7 @@ use Rattle.cases.specs.Cases.{CasesHold}
 use Rattle.mixing.proofs.Mixes.{mixed-exactly}
 use Rattle.promises.specs.Form.{FormCovered, LockedCovered, PendingCovered, BareCovered, ChangesCovered, ReachNeeded, EnterBars, PostsKeepOrder, OrderShows}
 use Rattle.promises.specs.Example.{SessionExample}
+use Rattle.promises.specs.Noise.{NoiseCases, EscNeeded}
 use Rattle.promises.specs.Promises.{Promises}
 use Rattle.promises.proofs.Refusals.{fresh-refusals, key-refusals, post-refusals, host-refusals, report-refusals, fresh-good, good-stays}
 use Rattle.promises.proofs.Once.{fresh-is-once, key-is-once, post-is-once, host-is-once, report-is-once}
@@ -17,12 +18,16 @@ use Rattle.promises.proofs.Protected.{protected-stay}
 use Rattle.promises.proofs.Changes.{byte-rows, reset-rows, call-rows, session-rows, fresh-rows, report-rows}
 use Rattle.promises.proofs.Records.{part-numbers, record-numbers, record-refusals, host-records}
 use Rattle.promises.proofs.Sessions.{part-is-once, record-is-once, lines-is-once, end-is-once, session-lines, session-numbered, session-good, session-in-parts}
+use Rattle.promises.proofs.Recovery.{esc-recovers, calls-unread, calls-recover, sessions-recover}
+use Rattle.promises.proofs.Cuts.{cuts-agree, cuts-stop, parts-agree, calls-go-on, records-go-on}
 use Rattle.promises.proofs.Mixing.{mixes-agree}
 
 -- the promises that are computed, on a memory of `rows` rows
 pub record Computed (rows : ℕ) : Type 0 where
   pub cases-hold : CasesHold rows
   pub session-example : SessionExample rows
+  pub noise-cases : NoiseCases rows
+  pub esc-needed : EscNeeded rows
   pub form-covered : FormCovered rows
   pub locked-covered : LockedCovered rows
   pub pending-covered : PendingCovered rows
@@ -82,6 +87,17 @@ kept-on rows some few c =
       record-once = record-is-once rows;
       lines-once = lines-is-once rows;
       end-once = end-is-once;
+      esc-recovers = esc-recovers rows;
+      calls-unread = calls-unread rows;
+      calls-recover = calls-recover rows;
+      sessions-recover = sessions-recover rows some;
+      cuts-agree = cuts-agree rows few;
+      cuts-stop = cuts-stop rows few;
+      parts-agree = parts-agree rows few;
+      calls-go-on = calls-go-on rows few;
+      records-go-on = records-go-on rows few;
+      noise-cases = c .noise-cases;
+      esc-needed = c .esc-needed;
       mixes-agree = mixes-agree rows;
       mixed-exactly = mixed-exactly;
       form-covered = c .form-covered;

@@ -111,6 +111,13 @@ module _ {rows : ℕ} {w : World} (s : Sound rows w) (bytes reply : List ℕ) wh
   fed-done : call .number ≡ 0 → call .taken ≡ length bytes
   fed-done = rw (fed-on s bytes reply) (λ e. omega (arith, fedOn-counts rows bytes 0 0 w reply (omega arith) .all-taken e))
 
+  -- one that is taken whole
+  pub fed-all : call .number ≡ 0 → (call .written ≡ sent rows bytes w) × (call .world ≡ run (stepped rows) bytes w)
+  fed-all z =
+      let d : drop (call .taken) bytes ≡ [] = ap (λ (n : ℕ). drop n bytes) (fed-done z) ∙ drop-length bytes in
+      let e : call .written + 0 ≡ sent rows bytes w = rw d at (fed-onward .0) in
+      (omega arith, rw d at (fed-onward .1))
+
 -- ---- the calls of an H record
 ended : {n m : ℕ} {a b : ℕ} {u v : World} → n ≡ m → a ≡ b → u ≡ v → ran n a u ≡ ran m b v
 ended p q e = cc
@@ -142,11 +149,9 @@ module _ (rows : ℕ) (r : List ℕ) (f : formRefusal r ≡ 0) (k : kindOf r ≡
 
       by : (h .number ≡ 0) ⊎ (h .number ≡ 7) → AllDone (suc calls) w at sum
       by (inl z) =
-          let d : drop (h .taken) rest ≡ [] = ap (λ (n : ℕ). drop n rest) (fed-done s rest (emptied rows) z) ∙ drop-length rest in
-          let e : h .written + 0 ≡ sent rows rest w = rw d at (o .0) in
-          let v : h .world ≡ run (stepped rows) rest w = rw d at (o .1) in
-          let n : sum + h .written ≡ sum + sent rows rest w = omega arith in
-          sym (last rows w r at sum (emptied rows) (emptied-long rows) (host-call w at) calls (λ q. omega arith)) ∙ ended z n v
+          let a = fed-all s rest (emptied rows) z in
+          let n : sum + h .written ≡ sum + sent rows rest w = omega (arith, a .0) in
+          sym (last rows w r at sum (emptied rows) (emptied-long rows) (host-call w at) calls (λ q. omega arith)) ∙ ended z n (a .1)
       by (inr z) =
           let t = fed-takes s rest (emptied rows) (emptied-long rows) z in
           let i = more (omega (arith, length-drop at bytes, fed-within rows w rest (emptied rows) .taken-in)) in
@@ -170,7 +175,7 @@ module _ (rows : ℕ) (r : List ℕ) (f : formRefusal r ≡ 0) (k : kindOf r ≡
 
 -- ---- the other records: one call is enough
 module _ (rows : ℕ) (w : World) (r : List ℕ) where
-  ran-other : ¬ (formRefusal r ≡ 0) → ran (formRefusal r) 0 w ≡ recordRan rows w r
+  pub ran-other : ¬ (formRefusal r ≡ 0) → ran (formRefusal r) 0 w ≡ recordRan rows w r
   ran-other n = whole-once rows w r (other-form rows w r 0 (emptied rows) refl n) (form-not-7 r)
 
   module _ (f : formRefusal r ≡ 0) where
@@ -182,13 +187,13 @@ module _ (rows : ℕ) (w : World) (r : List ℕ) where
         sym (ended e (u .none-written) (u .same-world)) ∙ whole-once rows w r (host-call rows r f k w 0) (λ q. ⊎-elim (λ p. omega arith) (λ p. omega arith) o)
 
     module _ (h : ¬ (kindOf r ≡ 72)) where
-      ran-key : 24 ≤ rows → kindOf r ≡ 75 → let k = keyed rows w (emptied rows) (numberOf r) in ran (k .number) (k .written) (k .world) ≡ recordRan rows w r
+      pub ran-key : 24 ≤ rows → kindOf r ≡ 75 → let k = keyed rows w (emptied rows) (numberOf r) in ran (k .number) (k .written) (k .world) ≡ recordRan rows w r
       unfolding keyPart
       ran-key l k =
           whole-once rows w r (key-record rows w r 0 (emptied rows) f h k)
           (λ q. let g = key-numbers rows w (emptied rows) (numberOf r) 7 .0 q in omega (arith, g .1 .1 .1 .1 .1 .1 .1, length-replicate {A = ℕ} (rows * 160) 0))
 
-      ran-post : ¬ (kindOf r ≡ 75) → let p = postedTo rows w (numberOf r) (dataOf r) in ran (p .number) 0 (p .world) ≡ recordRan rows w r
+      pub ran-post : ¬ (kindOf r ≡ 75) → let p = postedTo rows w (numberOf r) (dataOf r) in ran (p .number) 0 (p .world) ≡ recordRan rows w r
       unfolding postPart
       ran-post k =
           whole-once rows w r (post-record rows w r 0 (emptied rows) f h k)

@@ -12,6 +12,7 @@ use Rattle.promises.specs.Protected.{ProtectedStay}
 use Rattle.promises.specs.Changes.{ByteRows, ResetRows, CallRows, SessionRows, FreshRows, ReportRows}
 use Rattle.promises.specs.Sessions.{PartNumbers, RecordNumbers, RecordRefusals, HostRecords, PartOnce, RecordOnce, LinesOnce, EndOnce, SessionLines, SessionNumbered, SessionGood, SessionInParts}
 use Rattle.promises.specs.Example.{SessionExample}
+use Rattle.promises.specs.Noise.{EscRecovers, CallsUnread, CallsRecover, SessionsRecover, CutsAgree, CutsStop, PartsAgree, CallsGoOn, RecordsGoOn, NoiseCases, EscNeeded}
 use Rattle.promises.specs.Mixing.{MixesAgree}
 use Rattle.promises.specs.Form.{FormCovered, LockedCovered, PendingCovered, BareCovered, ChangesCovered, ReachNeeded, EnterBars, PostsKeepOrder, OrderShows}
 
@@ -75,6 +76,20 @@ pub record Promises (rows : ℕ) : Type 1 where
   pub record-once : RecordOnce rows
   pub lines-once : LinesOnce rows
   pub end-once : EndOnce
+  -- noise on the line: reading recovers at an ESC
+  pub esc-recovers : EscRecovers rows
+  pub calls-unread : CallsUnread rows
+  pub calls-recover : CallsRecover rows
+  pub sessions-recover : SessionsRecover rows
+  -- a stream is the same however it is cut, and with whatever reply buffers it goes on
+  pub cuts-agree : CutsAgree rows
+  pub cuts-stop : CutsStop rows
+  pub parts-agree : PartsAgree rows
+  pub calls-go-on : CallsGoOn rows
+  pub records-go-on : RecordsGoOn rows
+  -- examples of both, and what the ESC is for
+  pub noise-cases : NoiseCases rows
+  pub esc-needed : EscNeeded rows
   -- ---- 3. two tags cannot get in each other's way
   -- every mix ends alike and gives the same answers, and no mix is left out
   pub mixes-agree : MixesAgree rows
