@@ -30,7 +30,7 @@ pub esc-needed-96 : EscNeeded 96
 unfolding noise
 esc-needed-96 =
     record {
-      misread = record { sound = after-sound (omega arith) (omega arith) meant; other-sound = after-sound (omega arith) (omega arith) spoiled; differ = refl };
+      misread = record { sound = after-sound (omega arith) (omega arith) meant; other-sound = after-sound (omega arith) (omega arith) spoiled; else-same = refl };
       differ = cell-differs 12 refl;
     }
 
@@ -43,6 +43,6 @@ pub esc-needed-48 : EscNeeded 48
 unfolding noise
 esc-needed-48 =
     record {
-      misread = record { sound = after-sound (omega arith) (omega arith) meant; other-sound = after-sound (omega arith) (omega arith) spoiled; differ = refl };
+      misread = record { sound = after-sound (omega arith) (omega arith) meant; other-sound = after-sound (omega arith) (omega arith) spoiled; else-same = refl };
       differ = cell-differs 12 refl;
     }

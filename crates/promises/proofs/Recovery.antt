@@ -48,12 +48,12 @@ misread w reading number = stated w (reread (w .state) reading number)
 
 -- what holds of each such one that is sound, holds of the other of two that differ in no more
 by-misread : (P : World → Type 0) {rows : ℕ} {w v : World} → Misread rows w v → ((reading : ℕ) (number : Number) → Sound rows (misread w reading number) → P (misread w reading number)) → P v
-by-misread P {rows} {w} {v} m h = subst P (sym (m .differ)) (h (v .state .reading) (v .state .number) (sound-by (sym (m .differ)) (m .other-sound)))
+by-misread P {rows} {w} {v} m h = subst P (sym (m .else-same)) (h (v .state .reading) (v .state .number) (sound-by (sym (m .else-same)) (m .other-sound)))
 
 -- two that differ in no more
 are-misread : {rows : ℕ} {w v : World} → Sound rows w → Sound rows v → (reading : ℕ) (number : Number) → v ≡ misread w reading number → Misread rows w v
 are-misread {rows} {w} s t reading number e =
-    record { sound = s; other-sound = t; differ = e ∙ sym (ap (λ (u : World). misread w (u .state .reading) (u .state .number)) e) }
+    record { sound = s; other-sound = t; else-same = e ∙ sym (ap (λ (u : World). misread w (u .state .reading) (u .state .number)) e) }
 
 -- ---- calls in turn
 run-append : {E X : Type 0} (step : E → X → X) (es fs : List E) (x : X) → run step (es ++ fs) x ≡ run step fs (run step es x)

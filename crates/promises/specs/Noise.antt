@@ -22,7 +22,7 @@ use Rattle.promises.specs.Sessions.{WellFormed}
 pub record Misread (rows : ℕ) (w v : World) : Type 0 where
   pub sound : Sound rows w
   pub other-sound : Sound rows v
-  pub differ : v ≡ stated w (reread (w .state) (v .state .reading) (v .state .number))
+  pub else-same : v ≡ stated w (reread (w .state) (v .state .reading) (v .state .number))
 
 -- a byte counts modulo 128, so 27 and 155 are ESC
 abbrev pub IsEsc : ℕ → Type 0
