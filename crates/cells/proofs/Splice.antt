@@ -6,7 +6,7 @@ use mathlib.Core.List.{List, [], _++_, append-nil, append-assoc}
 use Prim.Native.Nat.{ℕ, _+_, _-_, _≤_, _<_}
 use native.Mathlib.Omega.{arith}
 use lib.ListN.{length, getD, take, drop, replicate, length-append, length-take, length-drop, length-replicate, getD-replicate, List·getD-append, drop-of-length-le, take-append-drop}
-use lib.Seq.{ext-getD, length-take-le, getD-take, getD-drop, getD-append-add, take-at, drop-at, take-append-le, take-take, drop-drop}
+use lib.Seq.{ext-getD, length-take-le, getD-take, getD-drop, getD-append-add, take-at, drop-at, take-append-le, take-append-add, drop-append-add, take-take, drop-drop}
 use lib.Dec.{ltb}
 use borrow.Author.Tests.{lt-ltb, le-ltb}
 use Rattle.cells.specs.Memory.{patch, written, posted, movedUp, movedDown}
@@ -161,6 +161,13 @@ module _ (xs : List ℕ) (at : ℕ) (bytes : List ℕ) (fits : at ≤ length xs)
   pub take-written-before : (n : ℕ) → n ≤ at → take n (written xs at bytes) ≡ take n xs
   unfolding written
   take-written-before n h = take-append-le n (take at xs) _ (rw (length-take-le at xs fits) h) ∙ take-take n at xs h
+
+-- written behind other bytes
+pub written-behind : (out xs : List ℕ) (at : ℕ) (bytes : List ℕ) → written (out ++ xs) (length out + at) bytes ≡ out ++ written xs at bytes
+unfolding written
+written-behind out xs at bytes =
+    let e : length out + at + length bytes ≡ length out + (at + length bytes) = omega arith in
+    rw (e, take-append-add out xs at, drop-append-add out xs (at + length bytes)) (append-assoc out (take at xs) _)
 
 pub written-twice : (xs : List ℕ) (at : ℕ) (a b : List ℕ) → at ≤ length xs → written (written xs at a) (at + length a) b ≡ written xs at (a ++ b)
 unfolding written

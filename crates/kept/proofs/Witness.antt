@@ -15,7 +15,7 @@ use Rattle.terminal.proofs.Good.{fresh-sound}
 use Rattle.key.specs.Keys.{keyed}
 use Rattle.post.specs.Posts.{postedTo}
 use Rattle.streams.proofs.Kept.{fed-sound}
-use Rattle.report.proofs.Kept.{report-good}
+use Rattle.report.proofs.Kept.{report-sound}
 use Rattle.mixing.specs.Event.{key, post, run, answers, keysOf}
 use Rattle.mixing.specs.Mix.{Mixed, done, a-key, a-post, here, later}
 use Rattle.mixing.proofs.Mixes.{mixed-posts}
@@ -39,9 +39,7 @@ module _ {rows : ℕ} (some : 24 ≤ rows) (few : rows ≤ 96) where
 
   reported-sound : Sound rows (reportedForm rows)
   unfolding reportedForm reportedOn
-  reported-sound =
-      let s = form-sound in
-      record { few = few; chars-long = s .chars-long; attrs-long = s .attrs-long; good = report-good rows (form rows .state) (s .good) }
+  reported-sound = report-sound form-sound
 
   locked-sound : Sound rows (lockedForm rows)
   unfolding lockedForm

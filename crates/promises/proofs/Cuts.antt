@@ -1,56 +1,28 @@
 -- A stream cut anywhere leaves what the whole leaves, and calls that go on after 7 with other reply buffers send what the whole sends. Assumes nothing.
-use Prim.Native.Nat.{ℕ, _+_, _-_, _≤_, _<_}
+use Prim.Native.Nat.{ℕ, _+_, _≤_, _<_}
 use mathlib.Core.Path.{_≡_, refl, sym, ap, ap₂, _∙_, subst}
-use mathlib.Core.Logic.{_⊎_, inl, inr}
+use mathlib.Core.Logic.{_⊎_, inl, inr, ⊎-elim}
 use mathlib.Core.Bool.{Bool, true, false, cond}
-use mathlib.Core.List.{List, [], _∷_, _++_, append-assoc}
+use mathlib.Core.List.{List, [], _∷_, _++_}
 use native.Mathlib.Omega.{arith}
 use lib.ListN.{length, take, drop, length-append, take-append-drop}
-use lib.Seq.{length-take-le, take-append-add, drop-append-add}
-use lib.Dec.{leb, eqb}
-use borrow.Author.Tests.{leb-true, leb-false, le-leb, lt-leb, eqb-true, eqb-false}
+use lib.Seq.{length-take-le}
+use lib.Dec.{eqb}
+use borrow.Author.Tests.{eqb-true, eqb-false}
 use Rattle.cells.specs.Memory.{written}
 use Rattle.cells.proofs.Splice.{take-written}
-use Rattle.cells.proofs.Choices.{choose-by, choose-as}
+use Rattle.cells.proofs.Choices.{choose-by}
 use Rattle.terminal.specs.State.{World, Sound}
-use Rattle.streams.specs.Streams.{answerTo, stepped, Hosted, hosted, delivered, fedOn, hostRefusal, fed}
-use Rattle.streams.proofs.Streams.{thenFed, fedOn-append, fedOn-counts}
-use Rattle.streams.proofs.Kept.{fedOn-sound, refused-by, unrefused, fed-sound}
+use Rattle.terminal.proofs.Good.{sound-in}
+use Rattle.streams.specs.Streams.{Hosted, hosted, delivered, fedOn, hostRefusal, fed}
+use Rattle.streams.proofs.Streams.{thenFed, fedOn-append, fedOn-behind, fedOn-counts}
+use Rattle.streams.proofs.Kept.{fedOn-sound, fed-by, refused-by, unrefused, fed-sound}
 use Rattle.streams.proofs.Steps.{steppedOn, answersTo, stepped-append, answers-append, fedOn-done, Taken, fedOn-is, fed-on}
 use Rattle.records.specs.Records.{dataOf, ran}
-use Rattle.promises.specs.Noise.{joined, fedAfter, CutsAgree, CutsStop, whole, fedInTurn, PartsAgree, goneOn, CallsGoOn, RecordsGoOn}
+use Rattle.promises.specs.Noise.{remaining, joined, fedAfter, CutsAgree, CutsStop, whole, fedInTurn, PartsAgree, goneOn, CallsGoOn, RecordsGoOn}
 use Rattle.promises.proofs.Refusals.{host-refusals}
 use Rattle.promises.proofs.Forms.{formed-well}
 use Rattle.promises.proofs.Records.{fed-all, host-done}
-
--- ---- bytes fed behind reply bytes that are written, and behind n bytes that are taken, leave what they leave in the rest of the buffer
-abbrev behind : List ℕ → ℕ → Hosted → Hosted
-behind out n h = hosted (h .number) (n + h .taken) (length out + h .written) (h .world) (out ++ h .reply)
-
-leb-behind : (k a b : ℕ) → leb (k + a) (k + b) ≡ leb a b
-leb-behind k a b = by (leb a b) refl
-  where
-    by : (t : Bool) → leb a b ≡ t → leb (k + a) (k + b) ≡ t
-    by true t = le-leb (k + a) (k + b) (omega (arith, leb-true a b t))
-    by false t = lt-leb (k + a) (k + b) (omega (arith, leb-false a b t))
-
-written-behind : (out xs : List ℕ) (at : ℕ) (bytes : List ℕ) → written (out ++ xs) (length out + at) bytes ≡ out ++ written xs at bytes
-unfolding written
-written-behind out xs at bytes =
-    let e : length out + at + length bytes ≡ length out + (at + length bytes) = omega arith in
-    rw (e, take-append-add out xs at, drop-append-add out xs (at + length bytes)) (append-assoc out (take at xs) _)
-
-fedOn-behind : (rows : ℕ) (out : List ℕ) (n : ℕ) (bytes : List ℕ) (taken sent : ℕ) (w : World) (reply : List ℕ)
-    → fedOn rows bytes (n + taken) (length out + sent) w (out ++ reply) ≡ behind out n (fedOn rows bytes taken sent w reply)
-unfolding fedOn
-fedOn-behind rows out n [] taken sent w reply = refl
-fedOn-behind rows out n (b ∷ bs) taken sent w reply =
-    let bytes = answerTo b w in
-    let e : n + taken + 1 ≡ n + (taken + 1) = omega arith in
-    let s : length out + sent + length bytes ≡ length out + (sent + length bytes) = omega arith in
-    rw (s, e, length-append out reply, leb-behind (length out) (sent + length bytes) (length reply), written-behind out reply sent bytes)
-    (choose-as (behind out n) (leb (sent + length bytes) (length reply))
-    (fedOn-behind rows out n bs (taken + 1) (sent + length bytes) (stepped rows b w) (written reply sent bytes)) refl)
 
 -- ---- a stream cut in two
 -- what the parts leave: the first alone where it does not answer 0
@@ -58,13 +30,13 @@ abbrev inTwo : Hosted → Hosted → Hosted
 inTwo f g = cond (eqb (f .number) 0) (joined f g) f
 
 fedOn-cut : (rows : ℕ) (first second : List ℕ) (w : World) (reply : List ℕ)
-    → let f = fedOn rows first 0 0 w reply in fedOn rows (first ++ second) 0 0 w reply ≡ inTwo f (fedOn rows second 0 0 (f .world) (drop (f .written) (f .reply)))
+    → let f = fedOn rows first 0 0 w reply in fedOn rows (first ++ second) 0 0 w reply ≡ inTwo f (fedOn rows second 0 0 (f .world) (remaining f))
 unfolding thenFed
 fedOn-cut rows first second w reply =
     let f = fedOn rows first 0 0 w reply in
     let c = fedOn-counts rows first 0 0 w reply (omega arith) in
     let out = take (f .written) (f .reply) in
-    let left = drop (f .written) (f .reply) in
+    let left = remaining f in
     let long : length out ≡ f .written = length-take-le (f .written) (f .reply) (omega (arith, c .sent-upto, c .reply-long)) in
     let p : f .taken ≡ f .taken + 0 = omega arith in
     let q : f .written ≡ length out + 0 = omega arith in
@@ -84,7 +56,7 @@ module _ (rows : ℕ) (few : rows ≤ 96) where
           let s = unrefused rows w few (eqb-true _ _ t) in
           let f = fedOn rows first 0 0 w reply in
           rw (fed-on s (first ++ second) reply, fed-on s first reply)
-          (fedOn-cut rows first second w reply ∙ ap (inTwo f) (sym (fed-on (fedOn-sound s first 0 0 reply) second (drop (f .written) (f .reply)))))
+          (fedOn-cut rows first second w reply ∙ ap (inTwo f) (sym (fed-on (fedOn-sound s first 0 0 reply) second (remaining f))))
       by false t =
           let n = eqb-false _ _ t in
           rw (← refused-by rows w (first ++ second) reply refl n, ← refused-by rows w first reply refl n, t)
@@ -93,16 +65,15 @@ module _ (rows : ℕ) (few : rows ≤ 96) where
   cuts-agree w first second reply =
       let f = fed rows w first reply in
       let g = fedAfter rows f second in
-      subst (λ (h : Hosted). h .number ≡ 0 → (f .number ≡ 0) × (g .number ≡ 0) × (joined f g ≡ h)) (sym (fed-cut w first second reply))
-      (choose-by (λ (h : Hosted). h .number ≡ 0 → (f .number ≡ 0) × (g .number ≡ 0) × (joined f g ≡ h)) (eqb (f .number) 0)
-      (λ t z. (eqb-true _ _ t, z, refl)) (λ t z. absurd (eqb-false _ _ t z)))
+      let P : Hosted → Type 0 = λ h. h .number ≡ 0 → (f .number ≡ 0) × (g .number ≡ 0) × (joined f g ≡ h) in
+      subst P (sym (fed-cut w first second reply)) (choose-by P (eqb (f .number) 0) (λ t z. (eqb-true _ _ t, z, refl)) (λ t z. absurd (eqb-false _ _ t z)))
 
   pub cuts-stop : CutsStop rows
   cuts-stop w first second reply =
       let f = fed rows w first reply in
       let g = fedAfter rows f second in
       let P : Hosted → Type 0 = λ h.
-      h .number ≡ 7 → ((h .taken < length first) × (f ≡ h)) ⊎ ((f .number ≡ 0) × (g .number ≡ 7) × (g .taken ≡ h .taken - length first) × (joined f g ≡ h)) in
+      h .number ≡ 7 → ((h .taken < length first) × (f ≡ h)) ⊎ ((f .number ≡ 0) × (g .number ≡ 7) × (h .taken ≡ length first + g .taken) × (joined f g ≡ h)) in
       let k = host-refusals rows w first reply in
       subst P (sym (fed-cut w first second reply))
       (choose-by P (eqb (f .number) 0)
@@ -114,7 +85,7 @@ module _ (rows : ℕ) (few : rows ≤ 96) where
   parts-agree w part [] reply = (refl, λ z. z)
   parts-agree w part (next ∷ parts) reply =
       let f = fed rows w part reply in
-      let i = parts-agree (f .world) next parts (drop (f .written) (f .reply)) in (
+      let i = parts-agree (f .world) next parts (remaining f) in (
         ap (inTwo f) (i .0) ∙ sym (fed-cut w part (whole next parts) reply),
         λ z. let c = cuts-agree w part (whole next parts) reply z in (c .0, i .1 (c .1)),
       )
@@ -164,11 +135,8 @@ module _ (rows : ℕ) (few : rows ≤ 96) where
 
   -- a stream that is taken was taken from a good state over memories of the right size
   taken-sound : (w : World) (bytes reply : List ℕ) → fed rows w bytes reply .number ≡ 0 → Sound rows w
-  taken-sound w bytes reply z = by (eqb (hostRefusal rows w) 0) refl
-    where
-      by : (t : Bool) → eqb (hostRefusal rows w) 0 ≡ t → Sound rows w
-      by true t = unrefused rows w few (eqb-true _ _ t)
-      by false t = absurd (eqb-false _ _ t (ap (λ (h : Hosted). h .number) (refused-by rows w bytes reply refl (eqb-false _ _ t)) ∙ z))
+  taken-sound w bytes reply =
+      fed-by (λ (h : Hosted). h .number ≡ 0 → Sound rows w) rows w bytes reply (λ s g _. sound-in few s g) (λ n o z. absurd (⊎-elim (λ p. omega arith) (λ p. omega arith) o))
 
   pub calls-go-on : CallsGoOn rows
   calls-go-on w bytes reply others roomy e z =

@@ -28,9 +28,10 @@ use Rattle.post.specs.Posts.{Posted, postRefusal, postedAt, postedTo}
 use Rattle.post.proofs.Kept.{post-sound}
 use Rattle.report.specs.declared.ReportAnswer.{ReportAnswer}
 use Rattle.report.specs.Reports.{reportRefusal, reported}
-use Rattle.report.proofs.Kept.{report-good}
+use Rattle.report.proofs.Kept.{report-sound}
 use Rattle.streams.specs.Streams.{actionFor, readOn, steppedBy, stepped, replyTo, answerTo, Hosted, hosted, delivered, fedOn, fed}
 use Rattle.streams.proofs.Kept.{sound-by, fed-sound}
+use Rattle.streams.proofs.Streams.{fedOn-none}
 use Rattle.streams.proofs.Rooms.{fed-room}
 use Rattle.streams.proofs.Steps.{fed-on}
 use Rattle.records.specs.Records.{kindOf, numberOf, dataOf, formRefusal, Ran, ran, emptied, recordRan}
@@ -39,7 +40,7 @@ use Rattle.sessions.specs.Session.{next, went}
 use Rattle.mixing.specs.Event.{run}
 use Rattle.promises.specs.Numbers.{sent}
 use Rattle.promises.specs.Calls.{Call, host, key, post, report, called, Told, by-host, by-key, by-post, by-report, told}
-use Rattle.promises.specs.Noise.{Misread, IsEsc, EscRecovers, allTold, NoHostByte, CallsUnread, CallsRecover, hostBytesOf, SessionsRecover}
+use Rattle.promises.specs.Noise.{Misread, IsEsc, EscRecovers, allTold, bytesOfCall, CallsUnread, CallsRecover, bytesOfRecord, SessionsRecover}
 use Rattle.promises.proofs.Records.{host-done, ran-other, ran-key, ran-post}
 
 -- ---- w with another reading state and another number
@@ -68,7 +69,7 @@ called-sound : {rows : ℕ} (c : Call) {w : World} → Sound rows w → Sound ro
 called-sound (host bytes reply) s = fed-sound s bytes reply
 called-sound (key code reply) s = key-sound s reply code
 called-sound (post field text) s = post-sound s text field
-called-sound {rows} report {w} s = record { few = s .few; chars-long = s .chars-long; attrs-long = s .attrs-long; good = report-good rows (w .state) (s .good) }
+called-sound report s = report-sound s
 
 -- ---- an ESC
 module _ (esc : ℕ) (e : IsEsc esc) where
@@ -105,8 +106,7 @@ esc-recovers rows w v m esc bytes e = (esc-fed esc e m bytes, λ reply other l. 
 
 -- ---- calls without a host byte: an empty stream, a key, a post, a report
 none-fed : {rows : ℕ} {w : World} → Sound rows w → (reply : List ℕ) → fed rows w [] reply ≡ hosted 0 0 0 w reply
-unfolding fedOn
-none-fed s reply = fed-on s [] reply
+none-fed {rows} {w} s reply = fed-on s [] reply ∙ fedOn-none rows 0 0 w reply
 
 module _ (rows : ℕ) (w : World) (reading : ℕ) (number : Number) (s : Sound rows w) (t : Sound rows (misread w reading number)) where
   abbrev other : World
@@ -184,14 +184,14 @@ module _ (rows : ℕ) (w : World) (reading : ℕ) (number : Number) (s : Sound r
   report-unread = rw (in-sound s .1, in-sound t .1)
 
 -- one call: what it leaves, and what it answers
-one-unread : (rows : ℕ) (c : Call) (w : World) (reading : ℕ) (number : Number) → Sound rows w → Sound rows (misread w reading number) → NoHostByte (c ∷ [])
+one-unread : (rows : ℕ) (c : Call) (w : World) (reading : ℕ) (number : Number) → Sound rows w → Sound rows (misread w reading number) → bytesOfCall c ≡ []
     → (called rows c (misread w reading number) ≡ misread (called rows c w) reading number) × (told rows c (misread w reading number) ≡ told rows c w)
 one-unread rows (host [] reply) w reading number s t q =
     let answer : Hosted → Told = λ h. by-host (h .number) (h .taken) (h .written) (h .reply) in (
       ap (λ (h : Hosted). h .world) (none-fed t reply) ∙ sym (ap (λ (h : Hosted). misread (h .world) reading number) (none-fed s reply)),
       ap answer (none-fed t reply) ∙ sym (ap answer (none-fed s reply)),
     )
-one-unread rows (host (b ∷ bytes) reply) w reading number s t q = absurd q
+one-unread rows (host (b ∷ bytes) reply) w reading number s t q = absurd (omega (arith, ap (λ (l : List ℕ). length l) q))
 one-unread rows (key code reply) w reading number s t q =
     let u = key-unread rows w reading number s t reply code in
     (ap (λ (k : Keyed). k .world) u, ap (λ (k : Keyed). by-key (k .number) (k .written) (k .reply)) u)
@@ -202,27 +202,18 @@ one-unread rows report w reading number s t q =
     let u = report-unread rows w reading number s t in
     (ap (λ (r : ReportAnswer). stated w (r .state)) u, ap (λ (r : ReportAnswer). by-report (r .number) (r .count) (r .first)) u)
 
-call-unread : {rows : ℕ} (c : Call) {w v : World} → Misread rows w v → NoHostByte (c ∷ []) → Misread rows (called rows c w) (called rows c v) × (told rows c v ≡ told rows c w)
+call-unread : {rows : ℕ} (c : Call) {w v : World} → Misread rows w v → bytesOfCall c ≡ [] → Misread rows (called rows c w) (called rows c v) × (told rows c v ≡ told rows c w)
 call-unread {rows} c {w} m q =
     by-misread (λ (v : World). Misread rows (called rows c w) (called rows c v) × (told rows c v ≡ told rows c w)) m
     (λ reading number t.
     let u = one-unread rows c w reading number (m .sound) t q in
     (are-misread (called-sound c (m .sound)) (called-sound c t) reading number (u .0), u .1))
 
--- the first call and the others
-no-host : (c : Call) (calls : List Call) → NoHostByte (c ∷ calls) → NoHostByte (c ∷ []) × NoHostByte calls
-no-host (host [] reply) calls q = (tt, q)
-no-host (host (b ∷ bytes) reply) calls q = absurd q
-no-host (key code reply) calls q = (tt, q)
-no-host (post field text) calls q = (tt, q)
-no-host report calls q = (tt, q)
-
 pub calls-unread : (rows : ℕ) → CallsUnread rows
 calls-unread rows [] w v m q = (m, refl)
 calls-unread rows (c ∷ calls) w v m q =
-    let n = no-host c calls q in
-    let u = call-unread c m (n .0) in
-    let i = calls-unread rows calls (called rows c w) (called rows c v) (u .0) (n .1) in
+    let u = call-unread c m (q .0) in
+    let i = calls-unread rows calls (called rows c w) (called rows c v) (u .0) (q .1) in
     (i .0, ap₂ (λ (a : Told) (l : List Told). a ∷ l) (u .1) (i .1))
 
 pub calls-recover : (rows : ℕ) → CallsRecover rows
@@ -246,7 +237,7 @@ module _ (rows : ℕ) (some : 24 ≤ rows) (w : World) (reading : ℕ) (number :
   done v bytes = ran 0 (sent rows bytes v) (run (stepped rows) bytes v)
 
   -- a record that brings no host byte
-  ran-unread : hostBytesOf r ≡ [] → recordRan rows (misread w reading number) r ≡ reran (recordRan rows w r)
+  ran-unread : bytesOfRecord r ≡ [] → recordRan rows (misread w reading number) r ≡ reran (recordRan rows w r)
   ran-unread = by (eqb (formRefusal r) 0) (eqb (kindOf r) 72) (eqb (kindOf r) 75) refl refl refl
     where
       by : (a b c : Bool) → eqb (formRefusal r) 0 ≡ a → eqb (kindOf r) 72 ≡ b → eqb (kindOf r) 75 ≡ c → cond (a && b) (dataOf r) [] ≡ []
@@ -270,7 +261,7 @@ module _ (rows : ℕ) (some : 24 ≤ rows) (w : World) (reading : ℕ) (number :
           ∙ ap reran (ran-post rows w r f h (eqb-false _ _ k))
 
   -- a record of which the first host byte is an ESC
-  ran-recovers : (esc : ℕ) (bytes : List ℕ) → IsEsc esc → hostBytesOf r ≡ esc ∷ bytes → recordRan rows (misread w reading number) r ≡ recordRan rows w r
+  ran-recovers : (esc : ℕ) (bytes : List ℕ) → IsEsc esc → bytesOfRecord r ≡ esc ∷ bytes → recordRan rows (misread w reading number) r ≡ recordRan rows w r
   ran-recovers esc bytes e = by (eqb (formRefusal r) 0) (eqb (kindOf r) 72) refl refl
     where
       same : done (misread w reading number) (esc ∷ bytes) ≡ done w (esc ∷ bytes)

@@ -1,6 +1,6 @@
 -- The promises of a noisy line: reading recovers at the next ESC from whatever reading state noise has left, and a stream is the same however it is cut and with whatever reply
 -- buffers it goes on. Examples are computed. This holds of 24 to 96 rows. Assumes nothing.
-use Prim.Native.Nat.{ℕ, _+_, _-_, _%_, _<_}
+use Prim.Native.Nat.{ℕ, _+_, _%_, _<_}
 use mathlib.Core.Path.{_≡_}
 use mathlib.Core.Logic.{_⊎_}
 use mathlib.Core.Bool.{Bool, true, cond, _&&_}
@@ -40,54 +40,55 @@ EscRecovers rows =
 abbrev pub allTold : ℕ → List Call → World → List Told
 allTold rows calls w = answers (called rows) (told rows) (λ c. true) calls w
 
--- no host byte comes: there are keys, posts, reports and empty streams
-abbrev pub NoHostByte : List Call → Type 0
-NoHostByte [] = Unit {0}
-NoHostByte (host [] reply ∷ calls) = NoHostByte calls
-NoHostByte (host (b ∷ bytes) reply ∷ calls) = ⊥
-NoHostByte (key code reply ∷ calls) = NoHostByte calls
-NoHostByte (post field text ∷ calls) = NoHostByte calls
-NoHostByte (report ∷ calls) = NoHostByte calls
+-- the host bytes that a call brings
+abbrev pub bytesOfCall : Call → List ℕ
+bytesOfCall (host bytes reply) = bytes
+bytesOfCall (key code reply) = []
+bytesOfCall (post field text) = []
+bytesOfCall report = []
+
+-- none of these brings a host byte: of calls, there are keys, posts, reports and empty streams
+abbrev pub NoHostByte : {A : Type 0} → (A → List ℕ) → List A → Type 0
+NoHostByte bytesOf [] = Unit {0}
+NoHostByte bytesOf (x ∷ xs) = (bytesOf x ≡ []) × NoHostByte bytesOf xs
 
 -- Such calls do not look at the reading state: they get the same answers, and the two differ in no more afterwards
 abbrev pub CallsUnread : ℕ → Type 0
 CallsUnread rows =
-    (calls : List Call) (w v : World) → Misread rows w v → NoHostByte calls
+    (calls : List Call) (w v : World) → Misread rows w v → NoHostByte bytesOfCall calls
     → Misread rows (run (called rows) calls w) (run (called rows) calls v) × (allTold rows calls v ≡ allTold rows calls w)
 
 -- Any calls of which the first host byte is an ESC get the same answers, and leave the same memory and state: such calls, then the stream that the ESC begins, then any calls
 abbrev pub CallsRecover : ℕ → Type 0
 CallsRecover rows =
-    (before later : List Call) (esc : ℕ) (bytes reply : List ℕ) (w v : World) → Misread rows w v → NoHostByte before → IsEsc esc
+    (before later : List Call) (esc : ℕ) (bytes reply : List ℕ) (w v : World) → Misread rows w v → NoHostByte bytesOfCall before → IsEsc esc
     → let calls = before ++ (host (esc ∷ bytes) reply ∷ later) in
     (run (called rows) calls v ≡ run (called rows) calls w) × (allTold rows calls v ≡ allTold rows calls w)
 
 -- the host bytes of a session record: the data of an H record; other records have none, refused ones too
-abbrev pub hostBytesOf : List ℕ → List ℕ
-hostBytesOf r = cond (eqb (formRefusal r) 0 && eqb (kindOf r) 72) (dataOf r) []
-
--- no record has any
-abbrev pub NoHostData : List (List ℕ) → Type 0
-NoHostData [] = Unit {0}
-NoHostData (r ∷ rs) = (hostBytesOf r ≡ []) × NoHostData rs
+abbrev pub bytesOfRecord : List ℕ → List ℕ
+bytesOfRecord r = cond (eqb (formRefusal r) 0 && eqb (kindOf r) 72) (dataOf r) []
 
 -- The same of session records, numbered from anywhere: the same lines, and the same memory and state
 abbrev pub SessionsRecover : ℕ → Type 0
 SessionsRecover rows =
     (before later : List (List ℕ)) (r : List ℕ) (esc : ℕ) (bytes : List ℕ) (number : ℕ) (w v : World)
-    → Misread rows w v → NoHostData before → hostBytesOf r ≡ esc ∷ bytes → IsEsc esc
+    → Misread rows w v → NoHostByte bytesOfRecord before → bytesOfRecord r ≡ esc ∷ bytes → IsEsc esc
     → went rows number v (before ++ (r ∷ later)) ≡ went rows number w (before ++ (r ∷ later))
 
 -- ---- cuts
 
--- what two calls leave together, f and then g, of which g had that part of the reply buffer that lies behind what f wrote: the number, state and memory of g, the counts
--- added up, and the buffer with what both wrote
+-- the room that remains after a call: the part of the reply buffer behind what it wrote
+abbrev pub remaining : Hosted → List ℕ
+remaining h = drop (h .written) (h .reply)
+
+-- what two calls leave together, f and then g with the room that remained: the number, state and memory of g, the counts added up, and the buffer with what both wrote
 abbrev pub joined : Hosted → Hosted → Hosted
 joined f g = hosted (g .number) (f .taken + g .taken) (f .written + g .written) (g .world) (take (f .written) (f .reply) ++ g .reply)
 
 -- the bytes after a call, on what it left, with the room that remains
 abbrev pub fedAfter : ℕ → Hosted → List ℕ → Hosted
-fedAfter rows f bytes = fed rows (f .world) bytes (drop (f .written) (f .reply))
+fedAfter rows f bytes = fed rows (f .world) bytes (remaining f)
 
 -- A stream that is taken whole, cut anywhere: both parts are taken whole, and together they leave what the whole leaves
 abbrev pub CutsAgree : ℕ → Type 0
@@ -106,7 +107,7 @@ CutsStop rows =
     let f = fed rows w first reply in
     let g = fedAfter rows f second in
     h .number ≡ 7
-    → ((h .taken < length first) × (f ≡ h)) ⊎ ((f .number ≡ 0) × (g .number ≡ 7) × (g .taken ≡ h .taken - length first) × (joined f g ≡ h))
+    → ((h .taken < length first) × (f ≡ h)) ⊎ ((f .number ≡ 0) × (g .number ≡ 7) × (h .taken ≡ length first + g .taken) × (joined f g ≡ h))
 
 -- a first part, and others behind it, as one stream
 unfoldable pub whole : List ℕ → List (List ℕ) → List ℕ
@@ -118,14 +119,14 @@ unfoldable pub fedInTurn : ℕ → World → List ℕ → List (List ℕ) → Li
 fedInTurn rows w part [] reply = fed rows w part reply
 fedInTurn rows w part (next ∷ parts) reply =
     let f = fed rows w part reply in
-    cond (eqb (f .number) 0) (joined f (fedInTurn rows (f .world) next parts (drop (f .written) (f .reply)))) f
+    cond (eqb (f .number) 0) (joined f (fedInTurn rows (f .world) next parts (remaining f))) f
 
 -- each of them is taken whole
 abbrev pub EachTaken : ℕ → World → List ℕ → List (List ℕ) → List ℕ → Type 0
 EachTaken rows w part [] reply = fed rows w part reply .number ≡ 0
 EachTaken rows w part (next ∷ parts) reply =
     let f = fed rows w part reply in
-    (f .number ≡ 0) × EachTaken rows (f .world) next parts (drop (f .written) (f .reply))
+    (f .number ≡ 0) × EachTaken rows (f .world) next parts (remaining f)
 
 -- Any number of parts leave what the whole leaves, be it taken, stopped or refused; and where the whole is taken, each of them is
 abbrev pub PartsAgree : ℕ → Type 0

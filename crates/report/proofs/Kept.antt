@@ -1,4 +1,4 @@
--- A report keeps a good state good; a refused one leaves all. Assumes nothing.
+-- A report keeps a good state good and a sound world sound; a refused one leaves all. Assumes nothing.
 use Prim.Native.Nat.{ℕ}
 use mathlib.Core.Path.{_≡_, refl, sym}
 use mathlib.Core.Bool.{false}
@@ -8,7 +8,7 @@ use borrow.Author.Tests.{eqb-true}
 use Rattle.reading.proofs.Rules.{either}
 use Rattle.cells.proofs.Choices.{choose-by}
 use Rattle.terminal.specs.declared.Terminal.{Terminal}
-use Rattle.terminal.specs.State.{Good}
+use Rattle.terminal.specs.State.{World, stated, Good, Sound}
 use Rattle.terminal.proofs.Noted.{good-flagged}
 use Rattle.report.specs.declared.ReportAnswer.{ReportAnswer}
 use Rattle.report.specs.Reports.{reportRefusal, reported}
@@ -30,3 +30,7 @@ module _ (rows : ℕ) (t : Terminal) where
   unfolding reported
   report-good g =
       either (λ (r : ReportAnswer). Good rows (r .state)) (eqb (reportRefusal rows t) 0) (good-flagged g (replicate rows false) (length-replicate rows false)) g
+
+-- over a sound world it leaves a sound one
+pub report-sound : {rows : ℕ} {w : World} → Sound rows w → Sound rows (stated w (reported rows (w .state) .state))
+report-sound {rows} {w} s = record { few = s .few; chars-long = s .chars-long; attrs-long = s .attrs-long; good = report-good rows (w .state) (s .good) }

@@ -1,33 +1,24 @@
 -- A stream is its steps: streams one after the other, counts, what is written where, and the steps of a loop over the bytes. Assumes nothing.
 use Prim.Native.Nat.{ℕ, suc, _+_, _-_, _≤_, _<_}
 use mathlib.Core.Path.{_≡_, refl, ap, sym, _∙_}
-use mathlib.Core.Bool.{cond}
+use mathlib.Core.Bool.{Bool, true, false, cond}
 use mathlib.Core.List.{List, [], _∷_, _++_}
 use native.Mathlib.Omega.{arith}
 use native.Mathlib.Numerals.{add-one}
-use lib.ListN.{length, take, drop, getD}
+use lib.ListN.{length, take, drop, getD, length-append}
 use lib.Seq.{take-nil, take-take, drop-drop, drop-cons, drop-length}
 use lib.Dec.{leb, eqb}
 use borrow.Author.Tests.{leb-true, leb-false, le-leb, lt-leb}
 use Rattle.cells.specs.Memory.{written}
-use Rattle.cells.proofs.Splice.{length-written, take-written-before, drop-written}
+use Rattle.cells.proofs.Splice.{length-written, take-written-before, drop-written, written-behind}
 use Rattle.cells.proofs.Choices.{choose-by, choose-as}
 use Rattle.terminal.specs.State.{World}
 use Rattle.streams.specs.Streams.{actionFor, replyTo, steppedBy, stepped, answerTo, Hosted, hosted, fedOn}
 
--- ---- no byte, one byte, and a byte before others
-module _ (rows taken sent : ℕ) (w : World) (reply : List ℕ) where
-  pub fedOn-none : fedOn rows [] taken sent w reply ≡ hosted 0 taken sent w reply
-  unfolding fedOn
-  fedOn-none = refl
-
-  pub fedOn-one : (b : ℕ) → fedOn rows (b ∷ []) taken sent w reply ≡ cond (leb (sent + length (answerTo b w)) (length reply)) (hosted 0 (taken + 1) (sent + length (answerTo b w)) (stepped rows b w) (written reply sent (answerTo b w))) (hosted 7 taken sent w reply)
-  unfolding fedOn
-  fedOn-one b = refl
-
-  pub fedOn-more : (b : ℕ) (bs : List ℕ) → fedOn rows (b ∷ bs) taken sent w reply ≡ cond (leb (sent + length (answerTo b w)) (length reply)) (fedOn rows bs (taken + 1) (sent + length (answerTo b w)) (stepped rows b w) (written reply sent (answerTo b w))) (hosted 7 taken sent w reply)
-  unfolding fedOn
-  fedOn-more b bs = refl
+-- ---- no byte
+pub fedOn-none : (rows taken sent : ℕ) (w : World) (reply : List ℕ) → fedOn rows [] taken sent w reply ≡ hosted 0 taken sent w reply
+unfolding fedOn
+fedOn-none rows taken sent w reply = refl
 
 -- ---- two streams one after the other: the second begins where the first ends, unless the first stopped
 unfoldable pub thenFed : ℕ → List ℕ → Hosted → Hosted
@@ -39,19 +30,28 @@ fedOn-append rows [] ys taken sent w reply = refl
 fedOn-append rows (b ∷ xs) ys taken sent w reply =
     choose-as (thenFed rows ys) (leb (sent + length (answerTo b w)) (length reply)) (fedOn-append rows xs ys (taken + 1) _ _ _) refl
 
--- ---- the count of bytes taken begins anywhere
-abbrev pub later : ℕ → Hosted → Hosted
-later n h = hosted (h .number) (n + h .taken) (h .written) (h .world) (h .reply)
+-- ---- behind n bytes that are taken, and reply bytes that are written, a stream leaves what it leaves in the rest of the buffer
+abbrev pub behind : List ℕ → ℕ → Hosted → Hosted
+behind out n h = hosted (h .number) (n + h .taken) (length out + h .written) (h .world) (out ++ h .reply)
 
-pub fedOn-later : (rows n : ℕ) (bytes : List ℕ) (taken sent : ℕ) (w : World) (reply : List ℕ) → fedOn rows bytes (n + taken) sent w reply ≡ later n (fedOn rows bytes taken sent w reply)
+leb-behind : (k a b : ℕ) → leb (k + a) (k + b) ≡ leb a b
+leb-behind k a b = by (leb a b) refl
+  where
+    by : (t : Bool) → leb a b ≡ t → leb (k + a) (k + b) ≡ t
+    by true t = le-leb (k + a) (k + b) (omega (arith, leb-true a b t))
+    by false t = lt-leb (k + a) (k + b) (omega (arith, leb-false a b t))
+
+pub fedOn-behind : (rows : ℕ) (out : List ℕ) (n : ℕ) (bytes : List ℕ) (taken sent : ℕ) (w : World) (reply : List ℕ)
+    → fedOn rows bytes (n + taken) (length out + sent) w (out ++ reply) ≡ behind out n (fedOn rows bytes taken sent w reply)
 unfolding fedOn
-fedOn-later rows n [] taken sent w reply = refl
-fedOn-later rows n (b ∷ bs) taken sent w reply =
+fedOn-behind rows out n [] taken sent w reply = refl
+fedOn-behind rows out n (b ∷ bs) taken sent w reply =
     let bytes = answerTo b w in
     let e : n + taken + 1 ≡ n + (taken + 1) = omega arith in
-    choose-as (later n) (leb (sent + length bytes) (length reply))
-    (ap (λ (k : ℕ). fedOn rows bs k (sent + length bytes) (stepped rows b w) (written reply sent bytes)) e
-    ∙ fedOn-later rows n bs (taken + 1) (sent + length bytes) (stepped rows b w) (written reply sent bytes)) refl
+    let s : length out + sent + length bytes ≡ length out + (sent + length bytes) = omega arith in
+    rw (s, e, length-append out reply, leb-behind (length out) (sent + length bytes) (length reply), written-behind out reply sent bytes)
+    (choose-as (behind out n) (leb (sent + length bytes) (length reply))
+    (fedOn-behind rows out n bs (taken + 1) (sent + length bytes) (stepped rows b w) (written reply sent bytes)) refl)
 
 -- a reply that fits still fits when it is written
 pub step-fits : (sent b : ℕ) (w : World) (reply : List ℕ) → sent + length (answerTo b w) ≤ length reply → sent + length (answerTo b w) ≤ length (written reply sent (answerTo b w))
