@@ -1,5 +1,7 @@
 // What bench/ times, in a memory of `rows` rows, 24 to 96. Each begins with a fresh terminal in the lent buffers; `changed`, of two words, gets the rows that changed
 // since then, or since the form was painted.
+#![tactic(auto)]
+
 ghost use Rattle.std.specs.Prelude.{◌≤◌};
 
 use key::KeyAnswer;
@@ -24,7 +26,7 @@ pub fn run_host(
 }
 
 // How many rows the reports told of in all, and the state afterwards.
-#[derive(Drop)]
+#[derive(Clone, Copy)]
 struct Lines {
     sum: u64,
     state: Terminal,

@@ -1,4 +1,6 @@
 // What bench/ times, for C, in a memory of 96 rows.
+#![tactic(auto)]
+
 #[unsafe(no_mangle)]
 pub extern "C" fn bench_host_96(
     chars: &mut [u8],

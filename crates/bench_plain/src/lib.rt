@@ -1,4 +1,6 @@
 // What bench/ times of the plain reader of host bytes, for C, in memories of 48 and of 96 rows.
+#![tactic(auto)]
+
 ghost use Rattle.std.specs.Prelude.{◌≤◌};
 
 // A host stream from a fresh terminal, as `bench::run_host` has it; how many of its bytes are taken.

@@ -1,11 +1,13 @@
 // One call of host, operator or a reader, and its line. A call has 85 bytes: the reader's number, 0 for none, and a session record, of kind R where a reader reads a field back.
+#![tactic(auto)]
+
 ghost use Rattle.std.specs.Prelude.{◌≡◌, ◌*◌, ◌≤◌, length};
 
 use printing::{Output, Page};
 use terminal::Terminal;
 
 // What is printed, the terminal, and the number of the next call.
-#[derive(Drop)]
+#[derive(Clone, Copy)]
 pub struct Progress {
     pub out: Output,
     pub state: Terminal,
@@ -13,7 +15,7 @@ pub struct Progress {
 }
 
 // The answer, how many bytes are sent or read, whether they are a text that was read, and the terminal.
-#[derive(Drop)]
+#[derive(Clone, Copy)]
 struct Made {
     answer: u8,
     size: usize,

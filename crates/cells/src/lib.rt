@@ -1,4 +1,6 @@
 // Byte memories: ranges, the answer of a search, and the loops that write. Each cell is written at most once in one operation.
+#![tactic(auto)]
+
 ghost use Rattle.std.specs.Prelude.{◌≡◌, ◌+◌, ◌-◌, ◌≤◌, ◌<◌, min, ◌++◌, length, replicate};
 ghost use Rattle.cells.specs.Range.{within};
 ghost use Rattle.cells.specs.Memory.{filled, shifted_right, shifted_left, moved_up, moved_down, written, posted};
@@ -18,7 +20,7 @@ pub fn least(a: usize, b: usize) -> usize
 }
 
 // What a search finds: a cell's number, or nothing.
-#[derive(Drop)]
+#[derive(Clone, Copy)]
 pub enum Found {
     At(usize),
     Nothing,

@@ -1,16 +1,18 @@
 // A set of rows, one bit a row, row 0 the lowest: rows 0 to 63 in the first word, 64 to 95 in the second. `set_of l` is the set whose rows are the list `l`; every good set is one (proofs/Sets).
+#![tactic(auto)]
+
 ghost use Rattle.std.specs.Prelude.{◌≡◌, Bool, true, false, List, ◌∷◌, ℕ, ◌<◌, ◌≤◌, length, get_or, replicate};
 ghost use Rattle.changes.specs.Sets.{set_of, rows_of, no_spare, either, count_true, first_true};
 ghost use Rattle.changes.specs.Rows.{only};
 
-#[derive(Drop)]
+#[derive(Clone, Copy)]
 pub struct Changes {
     pub low: u64,
     pub high: u64,
 }
 
 // How many rows are set, and the first of them, or the number of rows.
-#[derive(Drop)]
+#[derive(Clone, Copy)]
 pub struct Report {
     pub count: u32,
     pub first: u32,

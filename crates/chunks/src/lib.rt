@@ -1,11 +1,13 @@
 // A chunk of a file, run on the terminal and told: session records, or a part of a host stream. `rows` is the number of rows of its memory, 24 to 96.
+#![tactic(auto)]
+
 ghost use Rattle.std.specs.Prelude.{◌≡◌, ◌+◌, ◌≤◌, min};
 
 use printing::{Output, Page};
 use terminal::Terminal;
 
 // What is printed, the terminal, the number of the next record, and whether the line of replies to a host stream has a byte yet.
-#[derive(Drop)]
+#[derive(Clone, Copy)]
 pub struct Progress {
     pub out: Output,
     pub state: Terminal,
@@ -208,7 +210,7 @@ fn next(p: Progress) -> Progress {
 }
 
 // A record's answer, what is printed, and the terminal.
-#[derive(Drop)]
+#[derive(Clone, Copy)]
 struct Ran {
     out: Output,
     state: Terminal,

@@ -1,4 +1,6 @@
 // Clearing with format on: a cleared cell becomes blank and keeps its mark, with enhancement 0. Each clear walks on from its first cell, once.
+#![tactic(auto)]
+
 ghost use Rattle.std.specs.Prelude.{◌≡◌, ◌+◌, ◌*◌, ◌/◌, ◌≤◌, ◌<◌, ltb, length, set, get_or};
 ghost use Rattle.cells.specs.Memory.{changed_where};
 ghost use Rattle.fields.specs.Fields.{marks, unprotected, field_end, stripped};

@@ -1,4 +1,6 @@
 // Whether cells change: an edit's outcome compared with what stands there, before it writes.
+#![tactic(auto)]
+
 ghost use Rattle.std.specs.Prelude.{◌≡◌, cond, ◌||◌, ℕ, ◌+◌, ◌-◌, ◌*◌, ◌≤◌, ◌<◌, length, get_or, set};
 ghost use Rattle.cells.specs.Memory.{patch, filled, changed_where, shifted_right, shifted_left, posted, moved_up, moved_down};
 ghost use Rattle.fields.specs.Fields.{marks, stripped, unprotected};

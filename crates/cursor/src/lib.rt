@@ -1,4 +1,6 @@
 // The cursor and the window's top, by value. `rows` is the number of rows of the memory, 24 to 96.
+#![tactic(auto)]
+
 ghost use Rattle.std.specs.Prelude.{◌≡◌, cond, ltb, ◌+◌, ◌-◌, ◌*◌, ◌/◌, ◌%◌, ◌≤◌, ◌<◌, min};
 ghost use Rattle.cells.specs.Search.{first_in, last_in};
 ghost use Rattle.cursor.specs.Cursor.{top_for, gone, cell_of, at_cell, gone_up, gone_down, gone_left, gone_right, in_column, home_at, risen, fallen, is_placed, InPlace};
@@ -7,7 +9,7 @@ ghost use Rattle.cursor.specs.Stops.{is_stop, tabbed, back_tabbed};
 
 use cells::Found;
 
-#[derive(Drop)]
+#[derive(Clone, Copy)]
 pub struct Cursor {
     pub row: usize,
     pub col: usize,

@@ -1,5 +1,7 @@
 // The byte reader as plain decisions, in document 01's order and words ('Reading host bytes'): what a byte asks for, and the reading state and the number after it.
 // There is no table.
+#![tactic(auto)]
+
 ghost use Rattle.std.specs.Prelude.{◌≡◌, ◌≤◌};
 ghost use Rattle.reading.specs.Reading.{unbegun};
 ghost use Rattle.decisions.specs.Decisions.{goes_to, counts_on, in_plain, after_esc, after_group, signed, digited, in_cursor, in_enhance, in_other, decided};
@@ -7,7 +9,7 @@ ghost use Rattle.decisions.specs.Decisions.{goes_to, counts_on, in_plain, after_
 use reading::Number;
 
 // What a byte comes to: the action that it asks for, one of those that `reading` names, and the reading state and the number after it.
-#[derive(Drop)]
+#[derive(Clone, Copy)]
 pub struct Step {
     pub action: u8,
     pub reading: u8,

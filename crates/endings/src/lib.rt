@@ -1,4 +1,6 @@
 // What stands behind the last record of a file: the terminal, or why the file could not be read.
+#![tactic(auto)]
+
 ghost use Rattle.std.specs.Prelude.{◌≡◌, cond, ◌≤◌};
 
 use libc::STDERR_FILENO;
@@ -7,7 +9,7 @@ use terminal::Terminal;
 
 // What a file is asked for: the lines of a session; or a terminal to be shown after session records, or after a host stream, as a picture, or raw for scripts; or
 // the rows that each session record changes; of a terminal of 96 rows, or of 48. The lines of a session are the same by the plain reader of host bytes.
-#[derive(Drop)]
+#[derive(Clone, Copy)]
 pub struct Way {
     pub is_session: bool,
     pub is_host: bool,

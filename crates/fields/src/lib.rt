@@ -1,4 +1,6 @@
 // Fields: scans over the attribute memory, rows of 80 cells. A scan stops at the first hit.
+#![tactic(auto)]
+
 ghost use Rattle.std.specs.Prelude.{◌≡◌, ◌+◌, ◌-◌, ◌*◌, ◌/◌, ◌≤◌, ◌<◌, length};
 ghost use Rattle.cells.specs.Search.{first_in, last_in, count_in};
 ghost use Rattle.fields.specs.Walk.{kind_after};
@@ -22,7 +24,7 @@ pub fn has_mark(a: u8, highest: u8) -> bool
 }
 
 // What a search by rows and columns finds: a row and a column, or nothing.
-#[derive(Drop)]
+#[derive(Clone, Copy)]
 pub enum Spot {
     In(usize, usize),
     Nowhere,

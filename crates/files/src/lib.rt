@@ -1,4 +1,6 @@
 // One file, read to its end in chunks and run on a fresh terminal.
+#![tactic(auto)]
+
 use chunks::Progress;
 use endings::Way;
 use printing::{Output, Page};
@@ -46,7 +48,7 @@ fn run_on(
 }
 
 // A chunk that was read and run: how far the file came, the bytes behind the last record, whether the file is over, and whether no read failed.
-#[derive(Drop)]
+#[derive(Clone, Copy)]
 struct Chunk {
     progress: Progress,
     rest: usize,

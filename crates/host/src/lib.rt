@@ -1,4 +1,6 @@
 // The call for host bytes.
+#![tactic(auto)]
+
 ghost use Rattle.std.specs.Prelude.{◌≡◌, ◌≤◌, ◌<◌};
 ghost use Rattle.streams.specs.Streams.{action_for, read_on, stepped_by, host_left, fed_on, fed};
 ghost use Rattle.table.specs.Table.{Tabled};

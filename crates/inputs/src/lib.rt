@@ -1,4 +1,6 @@
 // What a program reads: a file's name before what is printed of it, its bytes chunk by chunk, and why it cannot be read.
+#![tactic(auto)]
+
 ghost use Rattle.std.specs.Prelude.{◌≤◌, length};
 
 use printing::{Output, Page};
@@ -28,7 +30,7 @@ pub fn tell(out: Output, page: &Page, name: &[u8]) -> Output {
 }
 
 // How many bytes were read, and whether no read failed.
-#[derive(Drop)]
+#[derive(Clone, Copy)]
 pub struct Filled {
     pub size: usize,
     pub is_well: bool,

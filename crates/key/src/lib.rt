@@ -1,4 +1,6 @@
 // The call for a key.
+#![tactic(auto)]
+
 ghost use Rattle.std.specs.Prelude.{◌≡◌, Bool, cond, not, ◌*◌, ◌%◌, ◌≤◌, ◌<◌, eqb, length, set};
 ghost use Rattle.cells.specs.Range.{within};
 ghost use Rattle.changes.specs.Sets.{set_of};
@@ -18,7 +20,7 @@ use cursor::Cursor;
 use terminal::Terminal;
 
 // The number, the bytes written to the reply, and the state afterwards.
-#[derive(Drop)]
+#[derive(Clone, Copy)]
 pub struct KeyAnswer {
     pub number: u8,
     pub written: usize,

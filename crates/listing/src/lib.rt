@@ -1,4 +1,6 @@
 // The terminal in lines for scripts: replies, the state and the memory; and its state in words.
+#![tactic(auto)]
+
 pub mod words;
 
 ghost use Rattle.std.specs.Prelude.{◌≤◌, ◌<◌};

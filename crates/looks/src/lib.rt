@@ -1,4 +1,6 @@
 // What an edit will change, told before it writes: nothing here writes.
+#![tactic(auto)]
+
 ghost use Rattle.std.specs.Prelude.{◌≡◌, ◌+◌, ◌-◌, ◌*◌, ◌/◌, ◌≤◌, ◌<◌, max, length, set, drop};
 ghost use Rattle.cells.specs.Memory.{filled, changed_where, moved_up, moved_down};
 ghost use Rattle.fields.specs.Fields.{marks, stripped, unprotected, field_end, target};

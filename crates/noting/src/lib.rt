@@ -1,4 +1,6 @@
 // An action with the rows that it changes: they are told before it writes, and then added to those of the state.
+#![tactic(auto)]
+
 ghost use Rattle.std.specs.Prelude.{◌≡◌, cond, ◌<◌, length};
 ghost use Rattle.changes.specs.Sets.{set_of, rows_of, either};
 ghost use Rattle.changes.specs.Differing.{differs, differing_both};

@@ -1,4 +1,6 @@
 // The call for host bytes over the plain decisions: byte by byte, with no table and no shorter way.
+#![tactic(auto)]
+
 ghost use Rattle.std.specs.Prelude.{◌≡◌, ◌≤◌};
 ghost use Rattle.streams.specs.Streams.{host_left, fed_on, fed};
 ghost use Rattle.terminal.specs.State.{world, Sound};

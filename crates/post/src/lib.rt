@@ -1,4 +1,6 @@
 // The call for a post: text into a field, with the cursor left where it is.
+#![tactic(auto)]
+
 ghost use Rattle.std.specs.Prelude.{◌≡◌, false, ℕ, ◌*◌, ◌≤◌, ◌<◌, replicate};
 ghost use Rattle.cells.specs.declared.Found.TheVariants.{At};
 ghost use Rattle.changes.specs.Sets.{set_of};
@@ -12,7 +14,7 @@ use changes::Changes;
 use terminal::Terminal;
 
 // The number, and the state afterwards: the state before with the row that changed.
-#[derive(Drop)]
+#[derive(Clone, Copy)]
 pub struct PostAnswer {
     pub number: u8,
     pub state: Terminal,
@@ -43,7 +45,7 @@ fn fits_all(kind: u8, text: &[u8]) -> bool
 }
 
 // What a post did to the memory: its number, and the row that it changed, if any.
-#[derive(Drop)]
+#[derive(Clone, Copy)]
 struct Entry {
     number: u8,
     changes: Changes,

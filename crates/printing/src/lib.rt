@@ -1,4 +1,6 @@
 // Text on its way to standard output: it waits in a lent array, the page, and goes out when that is full or is sent.
+#![tactic(auto)]
+
 ghost use Rattle.std.specs.Prelude.{◌≡◌, ◌+◌, ◌≤◌, length};
 
 use libc::STDOUT_FILENO;
@@ -7,7 +9,7 @@ use libc::STDOUT_FILENO;
 pub type Page = [u8; 8192];
 
 // How many bytes wait on the page, and whether every write so far was taken. After one that failed nothing more is written.
-#[derive(Drop)]
+#[derive(Clone, Copy)]
 pub struct Output {
     pub waiting: usize,
     pub is_well: bool,

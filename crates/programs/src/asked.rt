@@ -2,7 +2,7 @@
 use endings::Way;
 
 // `files` is 0, 1, or 2 for several; `is_bad` is for a word that begins with `-`, and for `changes` beside `host` or `raw`.
-#[derive(Drop)]
+#[derive(Clone, Copy)]
 pub struct Asked {
     pub way: Way,
     pub files: u8,

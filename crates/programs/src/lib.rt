@@ -1,4 +1,6 @@
 // The programs `session` and `show`: the files that they are asked for, one after the other, each from a fresh terminal.
+#![tactic(auto)]
+
 mod asked;
 
 use asked::Asked;

@@ -1,4 +1,6 @@
 // The calls of two readers that share a form: a reader's post, and its reading back of a field. Under an owner table each reader writes and reads the fields that it owns, and no others.
+#![tactic(auto)]
+
 ghost use Rattle.std.specs.Prelude.{◌≡◌, ◌||◌, ◌+◌, ◌*◌, ◌/◌, ◌≤◌, length, eqb};
 ghost use Rattle.cells.specs.declared.Found.TheVariants.{At};
 ghost use Rattle.fields.specs.Fields.{marks};
@@ -13,7 +15,7 @@ use post::PostAnswer;
 use terminal::Terminal;
 
 // The number, and how many bytes of the text are written.
-#[derive(Drop)]
+#[derive(Clone, Copy)]
 pub struct ReadAnswer {
     pub number: u8,
     pub written: usize,

@@ -1,4 +1,6 @@
 // Reading host bytes: the actions, numbered, the number being read, the next reading state.
+#![tactic(auto)]
+
 ghost use Rattle.std.specs.Prelude.{◌≡◌, ◌+◌, ◌-◌, ◌*◌, ◌≤◌, ◌<◌, min};
 ghost use Rattle.reading.specs.Reading.{unbegun, settled, counted, next_reading, sound_number};
 
@@ -143,7 +145,7 @@ pub fn next_reading(a: u8) -> u8
 }
 
 // The number being read: sign 0 none, 1 plus, 2 minus; whether a digit came; its value, at most 999.
-#[derive(Drop)]
+#[derive(Clone, Copy)]
 pub struct Number {
     pub sign: u8,
     pub digit: bool,

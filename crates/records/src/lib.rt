@@ -1,5 +1,7 @@
 // Session records: a record of 84 bytes is read and run on a terminal. `rows` is the number of rows of its memory, 24 to 96; `is_plain` is for the plain reader of host
 // bytes, else the table reads them: what comes out is the same.
+#![tactic(auto)]
+
 ghost use Rattle.std.specs.Prelude.{◌≡◌, ◌+◌, ◌*◌, ◌≤◌, ◌<◌, length, drop};
 ghost use Rattle.terminal.specs.State.{world};
 ghost use Rattle.streams.specs.Streams.{host_left, fed};
@@ -9,7 +11,7 @@ use streams::HostAnswer;
 use terminal::Terminal;
 
 // The number, the data byte to go on from, the bytes written to the reply, and the state afterwards.
-#[derive(Drop)]
+#[derive(Clone, Copy)]
 pub struct PartAnswer {
     pub number: u8,
     pub at: usize,
@@ -18,7 +20,7 @@ pub struct PartAnswer {
 }
 
 // The answer, the reply bytes added up, and the state afterwards.
-#[derive(Drop)]
+#[derive(Clone, Copy)]
 pub struct RanAnswer {
     pub answer: u8,
     pub replied: usize,

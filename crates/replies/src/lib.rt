@@ -1,4 +1,6 @@
 // The replies, byte by byte. A reply's length is told before it is sent.
+#![tactic(auto)]
+
 ghost use Rattle.std.specs.Prelude.{◌≡◌, ◌+◌, ◌*◌, ◌/◌, ◌%◌, ◌≤◌, ◌<◌, length};
 ghost use Rattle.cells.specs.Search.{last_in};
 ghost use Rattle.cells.specs.Memory.{written};

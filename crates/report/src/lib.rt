@@ -1,4 +1,6 @@
 // The call for a report of the rows that changed.
+#![tactic(auto)]
+
 ghost use Rattle.std.specs.Prelude.{◌≡◌, ◌≤◌};
 ghost use Rattle.report.specs.Reports.{reported};
 
@@ -6,7 +8,7 @@ use changes::Changes;
 use terminal::Terminal;
 
 // The number, how many rows are set, the first of them or the number of rows where none is, and the state afterwards, with none set.
-#[derive(Drop)]
+#[derive(Clone, Copy)]
 pub struct ReportAnswer {
     pub number: u8,
     pub count: u32,

@@ -1,4 +1,6 @@
 // Runs of host bytes that are done at once: text that is copied to its cells, and sequences that are followed to their end.
+#![tactic(auto)]
+
 ghost use Rattle.std.specs.Prelude.{◌≡◌, ◌+◌, ◌≤◌, ◌<◌, true, length, get_or, drop};
 ghost use Rattle.cursor.specs.Cursor.{InPlace};
 ghost use Rattle.fields.specs.Fields.{end_of_row};
@@ -11,7 +13,7 @@ use cursor::Cursor;
 use reading::Number;
 
 // How many bytes of text were copied, and whether a cell changed.
-#[derive(Drop)]
+#[derive(Clone, Copy)]
 pub struct Stretch {
     pub count: usize,
     pub changed: bool,
@@ -61,7 +63,7 @@ pub fn copy_text(chars: &mut [u8], bytes: &[u8], from: usize, cell: usize) -> St
 }
 
 // Where the reading of sequences stands: the cursor, the number, the reading state, and the place of the next byte.
-#[derive(Drop)]
+#[derive(Clone, Copy)]
 pub struct Reader {
     pub cursor: Cursor,
     pub number: Number,

@@ -1,4 +1,6 @@
 // What one edit does to a page: the characters, the attributes and the cursor. `rows` is the number of rows of the memory, 24 to 96.
+#![tactic(auto)]
+
 ghost use Rattle.std.specs.Prelude.{◌≡◌, ◌+◌, ◌*◌, ◌≤◌, ◌<◌, length};
 ghost use Rattle.cursor.specs.Cursor.{cell_of};
 ghost use Rattle.fields.specs.Fields.{marks, target};

@@ -1,5 +1,7 @@
 // Sessions: records of 84 bytes, run one after the other, and the lines that they print. `rows` is the number of rows of the terminal's memory, 24 to 96; `is_plain` is
 // for the plain reader of host bytes, else the table reads them: what comes out is the same.
+#![tactic(auto)]
+
 ghost use Rattle.std.specs.Prelude.{◌≡◌, [], ◌∷◌, ◌++◌, ◌+◌, ◌*◌, ◌≤◌, length};
 ghost use Rattle.cells.specs.Memory.{written};
 ghost use Rattle.terminal.specs.State.{world};
@@ -10,7 +12,7 @@ use cursor::Cursor;
 use terminal::Terminal;
 
 // The bytes taken, the bytes written to the lines, the number of the next record, and the state afterwards.
-#[derive(Drop)]
+#[derive(Clone, Copy)]
 pub struct LinesAnswer {
     pub taken: usize,
     pub written: usize,

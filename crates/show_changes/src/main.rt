@@ -1,4 +1,6 @@
 // The program `show` with the word `changes`, run on files.
+#![tactic(auto)]
+
 fn main() {
     programs::show();
 }

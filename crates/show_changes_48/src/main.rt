@@ -1,4 +1,6 @@
 // The program `show` with the words `changes 48`, run on files.
+#![tactic(auto)]
+
 fn main() {
     programs::show();
 }

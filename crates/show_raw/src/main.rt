@@ -1,4 +1,6 @@
 // The program `show` with the word `raw`, run on files.
+#![tactic(auto)]
+
 fn main() {
     programs::show();
 }

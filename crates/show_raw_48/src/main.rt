@@ -1,4 +1,6 @@
 // The program `show` with the words `48 raw`, run on files.
+#![tactic(auto)]
+
 fn main() {
     programs::show();
 }

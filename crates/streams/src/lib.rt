@@ -1,4 +1,6 @@
 // Host streams: when one is refused, what a byte sends, and the answer.
+#![tactic(auto)]
+
 ghost use Rattle.std.specs.Prelude.{◌≡◌, ◌+◌, ◌≤◌, length, leb};
 ghost use Rattle.cells.specs.Memory.{written};
 ghost use Rattle.terminal.specs.State.{world, Sound};
@@ -7,7 +9,7 @@ ghost use Rattle.streams.specs.Streams.{pending_reply, reply_to, host_refusal};
 use terminal::Terminal;
 
 // The number, the bytes taken, the bytes written to the reply, and the state afterwards.
-#[derive(Drop)]
+#[derive(Clone, Copy)]
 pub struct HostAnswer {
     pub number: u8,
     pub taken: usize,

@@ -1,4 +1,6 @@
 // The table of 896 actions: what a byte asks for in a reading state is one entry of it.
+#![tactic(auto)]
+
 ghost use Rattle.std.specs.Prelude.{◌≡◌, ◌<◌};
 ghost use Rattle.reading.specs.Reading.{action_of};
 ghost use Rattle.table.specs.Table.{Tabled};

@@ -1,5 +1,7 @@
 // The program `tags`: runs the calls of host, operator and two readers that share a form, of the files named or of standard input, each from a fresh terminal, and prints the answer to
 // each call. The test runs it on the example, with 96 rows and with 48, with files that end too soon among them, and a name that no file has.
+#![tactic(auto)]
+
 mod file;
 
 use libc::{STDERR_FILENO, STDIN_FILENO};
@@ -18,7 +20,7 @@ fn main() {
 }
 
 // What the words ask for: 0, 1 or several files, and the rows of standard input; `is_bad` is for a word that begins with `-`.
-#[derive(Drop)]
+#[derive(Clone, Copy)]
 struct Words {
     files: u8,
     is_48: bool,

@@ -1,4 +1,6 @@
 // The terminal's state, by value, with one method an action: keys and host bytes share them. `rows` is the number of rows of the memory, 24 to 96.
+#![tactic(auto)]
+
 ghost use Rattle.std.specs.Prelude.{◌≡◌, true, false, cond, ◌*◌, ◌≤◌, ◌<◌, length, replicate};
 ghost use Rattle.cursor.specs.Cursor.{cell_of, gone_up, gone_down, gone_left, gone_right, in_column, risen, fallen, InPlace};
 ghost use Rattle.cursor.specs.Addressing.{to_column, to_row, to_window_row};
@@ -13,7 +15,7 @@ use cursor::Cursor;
 use reading::Number;
 
 // The state. `pending` is 0 none, 1 absolute cursor, 2 window cursor, 3 status, 4 block; `reading` is the reading state, 0 to 6; `changes` has the rows that changed.
-#[derive(Drop)]
+#[derive(Clone, Copy)]
 pub struct Terminal {
     pub cursor: Cursor,
     pub format: bool,
@@ -476,7 +478,7 @@ impl Terminal {
 }
 
 // The answer of `fresh`: 0 done, 1 a memory buffer has another size; and a fresh state.
-#[derive(Drop)]
+#[derive(Clone, Copy)]
 pub struct FreshAnswer {
     pub number: u8,
     pub state: Terminal,
