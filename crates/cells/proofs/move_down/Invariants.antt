@@ -1,0 +1,19 @@
+-- `cells::move_down` meets its contract: the loop's invariant is `Cells`, and the row that `fill` writes joins it from below. Assumes nothing.
+use mathlib.Core.Path.{◌≡◌, refl, sym, ◌∙◌}
+use mathlib.Core.Bool.{cond}
+use Prim.Native.Nat.{◌≤◌, ◌-◌, ◌+◌}
+use native.Mathlib.Omega.{arith}
+use lib.ListN.{length, get_or}
+use lib.Dec.{ltb}
+use borrow.Author.Tests.{lt-ltb, le-ltb}
+use Rattle.cells.specs.Memory.{filled}
+use Rattle.cells.proofs.Patch.{Cells, none, down, done, patched, join-down}
+use Rattle.cells.proofs.Splice.{moved_down-patch}
+use Rattle.cells.proofs.move_down.Given as goal
+
+abbrev pub invariant-loop-i : goal.invariant-loop-i
+invariant-loop-i l =
+    (l.first ≤ l.i) × (l.i ≤ length l.initial.s) × (l.first ≡ l.from + 80) × Cells l.initial.s l.s l.i (length l.initial.s) (λ k. cond (ltb k (l.from + 80)) l.v (get_or l.initial.s (k - 80) 0))
+
+abbrev pub decreases-loop-i : goal.decreases-loop-i
+decreases-loop-i l = l.i

@@ -1,0 +1,8 @@
+-- `Cursor::rise` meets its contract, by what `least` gives. Assumes nothing.
+use borrow.Author.Rules.{rules}
+use Rattle.cursor.specs.Cursor.{risen}
+use Rattle.cursor.proofs.Cursor.rise.Goals as goal
+
+pub returns : goal.returns
+unfolding risen
+returns c = cc

@@ -1,0 +1,22 @@
+-- `fields::field_end` meets its contract: up to the cell at hand none is marked. Assumes nothing.
+use Prim.Native.Nat.{◌+◌, ◌-◌, ◌≤◌}
+use mathlib.Core.Path.{refl, ap, ◌∙◌}
+use borrow.Author.Rules.{rules}
+use native.Mathlib.Omega.{arith}
+use Rattle.cells.specs.Search.{at_or}
+use Rattle.cells.proofs.Search.{Upto, upto-start, upto_next, upto-hit, upto-end}
+use Rattle.fields.specs.Fields.{field_end}
+use Rattle.fields.proofs.Scans.{has_mark, first_marks}
+use Rattle.fields.proofs.field_end.Goals as goal
+
+pub returns-then-has_mark : goal.returns-then-has_mark
+unfolding field_end
+returns-then-has_mark c = ap (at_or _) (upto-hit c.loop-i.invariant.1 (omega arith) (cc) ∙ first_marks _ _ _ _)
+
+pub loop-i-preserved : goal.loop-i-preserved
+unfolding field_end
+loop-i-preserved c = (omega arith, upto_next c.loop-i.invariant.1 (omega arith) (cc) refl)
+
+pub returns : goal.returns
+unfolding field_end
+returns c = ap (at_or _) (upto-end c.loop-i.invariant.1 (omega arith) ∙ first_marks _ _ _ _)

@@ -1,0 +1,13 @@
+-- `fields::kind_at` meets its contract: from the cell at hand up to the cell none is marked. Assumes nothing.
+use Prim.Native.Nat.{◌+◌, ◌≤◌}
+use borrow.Author.Rules.{rules}
+use native.Mathlib.Omega.{arith}
+use Rattle.cells.proofs.Search.{Downto, down-start, down-next}
+use Rattle.fields.proofs.Scans.{has_mark, kind-hit, kind-none}
+use Rattle.fields.proofs.kind_at.Given as goal
+
+abbrev pub invariant-loop-i : goal.invariant-loop-i
+invariant-loop-i l = (l.start ≤ l.i) × (l.i ≤ l.cell + 1) × Downto (has_mark 5) 0 l.attrs l.start (l.cell + 1) l.i
+
+abbrev pub decreases-loop-i : goal.decreases-loop-i
+decreases-loop-i l = l.i

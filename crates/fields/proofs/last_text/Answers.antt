@@ -1,0 +1,18 @@
+-- `fields::last_text` meets its contract: from the cell at hand on all is blank. Assumes nothing.
+use Prim.Native.Nat.{◌≤◌}
+use mathlib.Core.Bool.{not}
+use mathlib.Core.Path.{refl, ap}
+use native.Mathlib.Omega.{arith}
+use borrow.Author.Tests.{eq-eqb, ne_eqb}
+use Rattle.cells.proofs.Search.{Downto, down-start, down-next, down-hit, down-end}
+use Rattle.fields.specs.Fields.{non_blank}
+use Rattle.fields.proofs.last_text.Goals as goal
+
+pub returns-then-v-ne32 : goal.returns-then-v-ne32
+returns-then-v-ne32 c = down-hit c.loop-i.invariant.1 (omega arith) (ap not (ne_eqb _ _ c.if-v-ne32.true)) (omega arith)
+
+pub loop-i-preserved : goal.loop-i-preserved
+loop-i-preserved c = (omega arith, down-next c.loop-i.invariant.1 (omega arith) (ap not (eq-eqb _ _ c.if-v-ne32.false)) (omega arith))
+
+pub returns : goal.returns
+returns c = down-end c.loop-i.invariant.1 (omega arith)

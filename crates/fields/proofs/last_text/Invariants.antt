@@ -1,0 +1,15 @@
+-- `fields::last_text` meets its contract: from the cell at hand on all is blank. Assumes nothing.
+use Prim.Native.Nat.{◌≤◌}
+use mathlib.Core.Bool.{not}
+use mathlib.Core.Path.{refl, ap}
+use native.Mathlib.Omega.{arith}
+use borrow.Author.Tests.{eq-eqb, ne_eqb}
+use Rattle.cells.proofs.Search.{Downto, down-start, down-next, down-hit, down-end}
+use Rattle.fields.specs.Fields.{non_blank}
+use Rattle.fields.proofs.last_text.Given as goal
+
+abbrev pub invariant-loop-i : goal.invariant-loop-i
+invariant-loop-i l = (l.i ≤ l.to) × Downto non_blank 0 l.chars l.from l.to l.i
+
+abbrev pub decreases-loop-i : goal.decreases-loop-i
+decreases-loop-i l = l.i
