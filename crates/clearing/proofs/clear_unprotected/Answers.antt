@@ -1,0 +1,41 @@
+-- `clearing::clear_unprotected` meets its contract: the cells up to `i` are cleared where unprotected, and `kind` with cell `i`'s mark gives its kind.
+-- Assumes nothing.
+use Prim.Native.Nat.{ℕ, ◌-◌, ◌≤◌}
+use mathlib.Core.Bool.{cond}
+use mathlib.Core.Logic.{⊎_elim}
+use mathlib.Core.Path.{refl, ap, sym, ◌∙◌}
+use borrow.Author.Rules.{rules}
+use native.Mathlib.Omega.{arith}
+use lib.ListN.{length, get_or}
+use Rattle.cells.proofs.Patch.{Cells, none, stored, skip, done-where}
+use Rattle.fields.specs.Fields.{mark_of, marks, stripped, unprotected}
+use Rattle.fields.specs.Walk.{kind_after}
+use Rattle.fields.proofs.Scans.{Onward, onward-start, onward-next, unprotected-by}
+use Rattle.clearing.proofs.clear_unprotected.Goals as goal
+use Rattle.clearing.proofs.clear_unprotected.Goals.{else-is_in, then-is_in}
+
+pub loop-i-init : goal.loop-i-init
+loop-i-init c = (omega arith, omega arith, onward-start c.kind_at-kind.ensures, none refl, none refl)
+
+pub loop-i-preserved : goal.loop-i-preserved
+loop-i-preserved c =
+    let l = c.loop-i in
+    let a = l.invariant.4.high l.i (omega arith) in
+    let k = c.kind_after-kind.ensures ∙ ap (λ (a : ℕ). kind_after l.i l.kind (mark_of a)) a ∙ l.invariant.2.gives in
+    let e = unprotected-by _ l.i k c.is_in.ensures in
+    elim c.if-is_in.branch [ then-is_in w ↦ (
+      omega arith,
+      omega arith,
+      onward-next l.i k refl,
+      rw w.chars-is (stored w.clear_cell.ensures.0 l.invariant.3 (omega arith) (omega arith) (sym (simp (e ∙ w.if-is_in.true))) refl),
+      rw w.attrs-is (stored w.clear_cell.ensures.1 l.invariant.4 (omega arith) (omega arith) (ap stripped a ∙ sym (simp (e ∙ w.if-is_in.true))) refl),
+    ) | else-is_in w ↦ (
+      omega arith,
+      omega arith,
+      onward-next l.i k refl,
+      rw w.chars-is (skip l.invariant.3 (sym (simp (e ∙ w.if-is_in.false))) refl),
+      rw w.attrs-is (skip l.invariant.4 (sym (simp (e ∙ w.if-is_in.false))) refl),
+    ) ]
+
+pub returns : goal.returns
+returns c = (done-where _ _ c.loop-i.invariant.3 (omega arith), done-where _ stripped c.loop-i.invariant.4 (omega arith))

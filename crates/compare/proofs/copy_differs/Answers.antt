@@ -1,0 +1,19 @@
+-- `compare::copy_differs` meets its contract: the loop's invariant is `Seen`. Assumes nothing.
+use Prim.Native.Nat.{◌+◌, ◌-◌, ◌≤◌}
+use mathlib.Core.Path.{◌≡◌}
+use mathlib.Core.Logic.{⊎_elim}
+use native.Mathlib.Omega.{arith}
+use lib.ListN.{get_or}
+use Rattle.compare.proofs.Patches.{Seen, seen_none, seen_same, seen_other}
+use Rattle.compare.proofs.copy_differs.Goals as goal
+use Rattle.compare.proofs.copy_differs.Goals.{else-s-a, then-s-a}
+
+pub loop-i-init : goal.loop-i-init
+loop-i-init c = (omega arith, seen_none (omega arith))
+
+pub loop-i-preserved : goal.loop-i-preserved
+loop-i-preserved c =
+    let l = c.loop-i in
+    let a = c.args in
+    let e : a.b + (a.a + l.i - a.a) ≡ a.b + l.i = omega arith in
+    elim c.if-s-a.branch [ then-s-a w ↦ (omega arith, rw w.seen-is (seen_other {i = a.a + l.i} (omega arith) (omega arith) (rw e w.if-s-a.true) (omega arith))) | else-s-a w ↦ (omega arith, rw w.seen-is (seen_same {i = a.a + l.i} l.invariant.1 (omega arith) (rw e w.if-s-a.false) (omega arith))) ]

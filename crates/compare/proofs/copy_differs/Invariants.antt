@@ -1,0 +1,14 @@
+-- `compare::copy_differs` meets its contract: the loop's invariant is `Seen`. Assumes nothing.
+use Prim.Native.Nat.{◌+◌, ◌-◌, ◌≤◌}
+use mathlib.Core.Path.{◌≡◌}
+use mathlib.Core.Logic.{⊎_elim}
+use native.Mathlib.Omega.{arith}
+use lib.ListN.{get_or}
+use Rattle.compare.proofs.Patches.{Seen, seen_none, seen_same, seen_other}
+use Rattle.compare.proofs.copy_differs.Given as goal
+
+abbrev pub invariant-loop-i : goal.invariant-loop-i
+invariant-loop-i l = (l.i ≤ l.n) × Seen l.s l.a (l.a + l.i) (λ k. get_or l.s (l.b + (k - l.a)) 0) l.seen
+
+abbrev pub decreases-loop-i : goal.decreases-loop-i
+decreases-loop-i l = l.n - l.i

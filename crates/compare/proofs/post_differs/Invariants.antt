@@ -1,0 +1,23 @@
+-- `compare::post_differs` meets its contract: the loop's invariant is `Alike`, and the blanks are `fill_differs`'s. Assumes nothing.
+use Prim.Native.Nat.{ℕ, ◌+◌, ◌-◌, ◌≤◌, ◌<◌}
+use mathlib.Core.Path.{◌≡◌, sym, ap, ◌∙◌}
+use mathlib.Core.Bool.{cond}
+use mathlib.Core.List.{List}
+use native.Mathlib.Omega.{arith}
+use lib.ListN.{length, get_or}
+use lib.Dec.{ltb}
+use borrow.Author.Tests.{lt-ltb, le-ltb}
+use Rattle.cells.specs.Memory.{filled}
+use Rattle.cells.proofs.Splice.{posted-patch}
+use Rattle.changes.specs.Differing.{differs}
+use Rattle.compare.proofs.Patches.{altered, patch-as, patch-from, Alike, alike-none, alike-more}
+use Rattle.compare.proofs.post_differs.Given as goal
+
+abbrev pub text-then : ℕ → List ℕ → ℕ → ℕ
+text-then from text k = cond (ltb (k - from) (length text)) (get_or text (k - from) 0) 32
+
+abbrev pub invariant-loop-i : goal.invariant-loop-i
+invariant-loop-i l = (l.i ≤ l.n) × (l.n ≡ length l.text) × Alike l.s l.from (l.from + l.i) (text-then l.from l.text)
+
+abbrev pub decreases-loop-i : goal.decreases-loop-i
+decreases-loop-i l = l.n - l.i
