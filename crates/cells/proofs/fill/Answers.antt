@@ -1,9 +1,8 @@
 -- `cells::fill` meets its contract: the loop's invariant is `Cells`, going up. Assumes nothing.
 use mathlib.Core.Path.{refl}
-use Prim.Native.Nat.{◌≤◌, ◌-◌}
 use native.Mathlib.Omega.{arith}
 use Rattle.cells.specs.Memory.{filled}
-use Rattle.cells.proofs.Patch.{Cells, none, up, done}
+use Rattle.cells.proofs.Patch.{done}
 use Rattle.cells.proofs.fill.Goals as goal
 
 pub returns : goal.returns

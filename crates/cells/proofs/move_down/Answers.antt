@@ -1,13 +1,10 @@
 -- `cells::move_down` meets its contract: the loop's invariant is `Cells`, and the row that `fill` writes joins it from below. Assumes nothing.
 use mathlib.Core.Path.{◌≡◌, refl, sym, ◌∙◌}
-use mathlib.Core.Bool.{cond}
-use Prim.Native.Nat.{◌≤◌, ◌-◌, ◌+◌}
+use Prim.Native.Nat.{◌+◌}
 use native.Mathlib.Omega.{arith}
-use lib.ListN.{length, get_or}
-use lib.Dec.{ltb}
-use borrow.Author.Tests.{lt-ltb, le-ltb}
+use borrow.Author.Tests.{lt-ltb}
 use Rattle.cells.specs.Memory.{filled}
-use Rattle.cells.proofs.Patch.{Cells, none, down, done, patched, join-down}
+use Rattle.cells.proofs.Patch.{done, patched, join-down}
 use Rattle.cells.proofs.Splice.{moved_down-patch}
 use Rattle.cells.proofs.move_down.Goals as goal
 

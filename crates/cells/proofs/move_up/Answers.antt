@@ -1,13 +1,11 @@
 -- `cells::move_up` meets its contract: the loop's invariant is `Cells`, and the last row that `fill` writes joins it. Assumes nothing.
 use mathlib.Core.Path.{◌≡◌, refl, sym, ◌∙◌}
-use mathlib.Core.Bool.{cond}
-use Prim.Native.Nat.{◌≤◌, ◌-◌, ◌+◌}
+use Prim.Native.Nat.{◌-◌, ◌+◌}
 use native.Mathlib.Omega.{arith}
-use lib.ListN.{length, get_or}
-use lib.Dec.{ltb}
-use borrow.Author.Tests.{lt-ltb, le-ltb}
+use lib.ListN.{length}
+use borrow.Author.Tests.{le-ltb}
 use Rattle.cells.specs.Memory.{filled}
-use Rattle.cells.proofs.Patch.{Cells, none, up, done, patched, join}
+use Rattle.cells.proofs.Patch.{done, patched, join}
 use Rattle.cells.proofs.Splice.{moved_up-patch}
 use Rattle.cells.proofs.move_up.Goals as goal
 

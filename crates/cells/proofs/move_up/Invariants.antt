@@ -1,14 +1,10 @@
 -- `cells::move_up` meets its contract: the loop's invariant is `Cells`, and the last row that `fill` writes joins it. Assumes nothing.
-use mathlib.Core.Path.{◌≡◌, refl, sym, ◌∙◌}
+use mathlib.Core.Path.{◌≡◌}
 use mathlib.Core.Bool.{cond}
 use Prim.Native.Nat.{◌≤◌, ◌-◌, ◌+◌}
-use native.Mathlib.Omega.{arith}
 use lib.ListN.{length, get_or}
 use lib.Dec.{ltb}
-use borrow.Author.Tests.{lt-ltb, le-ltb}
-use Rattle.cells.specs.Memory.{filled}
-use Rattle.cells.proofs.Patch.{Cells, none, up, done, patched, join}
-use Rattle.cells.proofs.Splice.{moved_up-patch}
+use Rattle.cells.proofs.Patch.{Cells}
 use Rattle.cells.proofs.move_up.Given as goal
 
 abbrev pub invariant-loop-i : goal.invariant-loop-i

@@ -5,7 +5,6 @@ use native.Mathlib.Omega.{arith}
 use lib.ListN.{length, take, drop}
 use Rattle.cells.specs.Memory.{written, posted}
 use Rattle.cells.proofs.Splice.{length_part, lent}
-use borrow.Author.Rules.{rules}
 use Rattle.cells.proofs.post_at.Goals as goal
 
 pub returns : goal.returns

@@ -1,13 +1,10 @@
 -- `cells::shift_left` meets its contract: the loop's invariant is `Cells`, going up to the cell where `v` enters. Assumes nothing.
-use mathlib.Core.Path.{◌≡◌, refl, sym, ◌∙◌}
-use mathlib.Core.Bool.{cond}
-use Prim.Native.Nat.{◌≤◌, ◌-◌, ◌+◌}
+use mathlib.Core.Path.{◌≡◌, refl, sym}
+use Prim.Native.Nat.{◌-◌, ◌+◌}
 use native.Mathlib.Omega.{arith}
-use lib.ListN.{get_or, length-set}
-use lib.Dec.{eqb}
-use borrow.Author.Tests.{eq-eqb, ne_eqb}
+use borrow.Author.Tests.{eq-eqb}
 use Rattle.cells.specs.Memory.{shifted_left}
-use Rattle.cells.proofs.Patch.{Cells, none, up, done}
+use Rattle.cells.proofs.Patch.{up, done}
 use Rattle.cells.proofs.shift_left.Goals as goal
 
 pub returns : goal.returns

@@ -6,7 +6,6 @@ use native.Mathlib.Omega.{arith}
 use lib.ListN.{length, take, drop, replicate}
 use Rattle.cells.specs.Memory.{written}
 use Rattle.cells.proofs.Splice.{length_part, lent}
-use borrow.Author.Rules.{rules}
 use Rattle.cells.proofs.write_at.Goals as goal
 
 pub returns : goal.returns

@@ -1,14 +1,9 @@
 -- `cells::write_text` meets its contract: the loop's invariant is `Cells`, and the blanks that `fill` writes join it. Assumes nothing.
-use mathlib.Core.Path.{◌≡◌, refl, sym, ◌∙◌}
 use mathlib.Core.Bool.{cond}
 use Prim.Native.Nat.{◌≤◌, ◌-◌}
-use native.Mathlib.Omega.{arith}
 use lib.ListN.{length, get_or}
 use lib.Dec.{ltb}
-use borrow.Author.Tests.{lt-ltb, le-ltb}
-use Rattle.cells.specs.Memory.{filled}
-use Rattle.cells.proofs.Patch.{Cells, none, up, patched, join}
-use Rattle.cells.proofs.Splice.{is-text}
+use Rattle.cells.proofs.Patch.{Cells}
 use Rattle.cells.proofs.write_text.Given as goal
 
 abbrev pub invariant-loop-i : goal.invariant-loop-i

@@ -23,19 +23,22 @@ loop-i-preserved c =
     let a = l.invariant.4.high l.i (omega arith) in
     let k = c.kind_after-kind.ensures ∙ ap (λ (a : ℕ). kind_after l.i l.kind (mark_of a)) a ∙ l.invariant.2.gives in
     let e = unprotected-by _ l.i k c.is_in.ensures in
-    elim c.if-is_in.branch [ then-is_in w ↦ (
-      omega arith,
-      omega arith,
-      onward-next l.i k refl,
-      rw w.chars-is (stored w.clear_cell.ensures.0 l.invariant.3 (omega arith) (omega arith) (sym (simp (e ∙ w.if-is_in.true))) refl),
-      rw w.attrs-is (stored w.clear_cell.ensures.1 l.invariant.4 (omega arith) (omega arith) (ap stripped a ∙ sym (simp (e ∙ w.if-is_in.true))) refl),
-    ) | else-is_in w ↦ (
-      omega arith,
-      omega arith,
-      onward-next l.i k refl,
-      rw w.chars-is (skip l.invariant.3 (sym (simp (e ∙ w.if-is_in.false))) refl),
-      rw w.attrs-is (skip l.invariant.4 (sym (simp (e ∙ w.if-is_in.false))) refl),
-    ) ]
+    elim c.if-is_in.branch [
+      | then-is_in w ↦ (
+        omega arith,
+        omega arith,
+        onward-next l.i k refl,
+        rw w.chars-is (stored w.clear_cell.ensures.0 l.invariant.3 (omega arith) (omega arith) (sym (simp (e ∙ w.if-is_in.true))) refl),
+        rw w.attrs-is (stored w.clear_cell.ensures.1 l.invariant.4 (omega arith) (omega arith) (ap stripped a ∙ sym (simp (e ∙ w.if-is_in.true))) refl),
+      )
+      | else-is_in w ↦ (
+        omega arith,
+        omega arith,
+        onward-next l.i k refl,
+        rw w.chars-is (skip l.invariant.3 (sym (simp (e ∙ w.if-is_in.false))) refl),
+        rw w.attrs-is (skip l.invariant.4 (sym (simp (e ∙ w.if-is_in.false))) refl),
+      )
+    ]
 
 pub returns : goal.returns
 returns c = (done-where _ _ c.loop-i.invariant.3 (omega arith), done-where _ stripped c.loop-i.invariant.4 (omega arith))

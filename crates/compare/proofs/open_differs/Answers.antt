@@ -59,9 +59,9 @@ loop-i-preserved c =
     let e = unprotected-by _ l.i k c.is_in.ensures in
     let y = c.args.attrs.now in
     elim c.if-is_in.branch [
-      then-is_in+else-chars-i-ne32+else-attrs-i-ge16 w ↦
-        let q : get_or y l.i 0 ≡ stripped (get_or y l.i 0) = omega (arith, w.if-attrs-i-ge16.false) in
-        (omega arith, omega arith, onward-next l.i k refl, alike-more l.invariant.3 (w.if-chars-i-ne32.false ∙ sym (simp (e ∙ w.if-is_in.true))) refl, alike-more l.invariant.4 (q ∙ sym (simp (e ∙ w.if-is_in.true))) refl)
+      | then-is_in+else-chars-i-ne32+else-attrs-i-ge16 w ↦
+          let q : get_or y l.i 0 ≡ stripped (get_or y l.i 0) = omega (arith, w.if-attrs-i-ge16.false) in
+          (omega arith, omega arith, onward-next l.i k refl, alike-more l.invariant.3 (w.if-chars-i-ne32.false ∙ sym (simp (e ∙ w.if-is_in.true))) refl, alike-more l.invariant.4 (q ∙ sym (simp (e ∙ w.if-is_in.true))) refl)
       | else-is_in w ↦ (omega arith, omega arith, onward-next l.i k refl, alike-more l.invariant.3 (sym (simp (e ∙ w.if-is_in.false))) refl, alike-more l.invariant.4 (sym (simp (e ∙ w.if-is_in.false))) refl)
     ]
 

@@ -16,6 +16,6 @@ pub loop-i-preserved : goal.loop-i-preserved
 loop-i-preserved c =
     let l = c.loop-i in
     elim c.if-s-i-ge16.branch [
-      then-s-i-ge16 w ↦ (omega arith, omega arith, rw w.seen-is (seen_other (omega arith) (omega arith) (λ e. omega (arith, w.if-s-i-ge16.true, e)) refl))
+      | then-s-i-ge16 w ↦ (omega arith, omega arith, rw w.seen-is (seen_other (omega arith) (omega arith) (λ e. omega (arith, w.if-s-i-ge16.true, e)) refl))
       | else-s-i-ge16 w ↦ (omega arith, omega arith, rw w.seen-is (seen_same l.invariant.2 (omega arith) (omega (arith, w.if-s-i-ge16.false)) refl))
     ]

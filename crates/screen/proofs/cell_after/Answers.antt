@@ -1,0 +1,17 @@
+-- `screen::cell_after` meets its contract, by the field's end and by what the search for the next start finds. Assumes nothing.
+use Rattle.screen.specs.Edits.{cell_after}
+use borrow.Author.Tests.{lt-ltb, le-ltb}
+use borrow.Author.Rules.{rules}
+use Rattle.screen.proofs.cell_after.Goals as goal
+
+pub returns-then-k-end : goal.returns-then-k-end
+unfolding cell_after
+returns-then-k-end c = rw (← c.field_end-end.ensures, lt-ltb _ _ c.if-k-end.true)
+
+pub returns-in-At : goal.returns-in-At
+unfolding cell_after
+returns-in-At c = rw (← c.field_end-end.ensures, le-ltb _ _ c.if-k-end.false, ← c.next_start-next.ensures, c.in-At.is)
+
+pub returns-in-Nothing : goal.returns-in-Nothing
+unfolding cell_after
+returns-in-Nothing c = rw (← c.field_end-end.ensures, le-ltb _ _ c.if-k-end.false, ← c.next_start-next.ensures, c.in-Nothing.is)
