@@ -1,5 +1,4 @@
 -- `address` meets its contract: a place or a sum, by what `hold` gives. Assumes nothing.
-use borrow.Author.Rules.{rules}
 use native.Mathlib.Omega.{arith}
 use mir.Facts.{to_z-of_z}
 use Rattle.cursor.proofs.Signed.{small, aimed-place, aimed-move, move-fits, move-back}

@@ -1,10 +1,9 @@
 -- `hold` meets its contract: a number below 0 is held to 0, and any other is the same number unsigned. Assumes nothing.
-use borrow.Author.Rules.{rules}
 use native.Mathlib.Omega.{arith}
 use mathlib.Core.Path.{sym}
 use mir.Syntax.{w64}
-use mir.Facts.{to_z-of_z, Fits-nat_abs}
-use Rattle.cursor.proofs.Signed.{held_below, held-from, from_zero}
+use mir.Facts.{to_z-of_z}
+use Rattle.cursor.proofs.Signed.{held_below, held-from}
 use Rattle.cursor.proofs.hold.Goals as goal
 
 pub returns-then-x-lt0 : goal.returns-then-x-lt0

@@ -1,11 +1,7 @@
 -- `last_stop` meets its contract: the loop's invariant is `Downto`, that no stop was passed. Assumes nothing.
-use borrow.Author.Rules.{rules}
 use Prim.Native.Nat.{◌≤◌}
-use mathlib.Core.Path.{refl}
 use mathlib.Core.Bool.{false}
-use native.Mathlib.Omega.{arith}
-use borrow.Kind.Array.{good_length, e_bool}
-use Rattle.cells.proofs.Search.{Downto, down-start, down-next, down-hit, down-end}
+use Rattle.cells.proofs.Search.{Downto}
 use Rattle.cursor.specs.Stops.{is_stop}
 use Rattle.cursor.proofs.last_stop.Given as goal
 

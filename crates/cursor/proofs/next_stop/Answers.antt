@@ -1,12 +1,7 @@
 -- `next_stop` meets its contract: the loop's invariant is `Upto`, that no stop was passed. Assumes nothing.
-use borrow.Author.Rules.{rules}
-use Prim.Native.Nat.{◌-◌, ◌≤◌}
 use mathlib.Core.Path.{refl}
-use mathlib.Core.Bool.{false}
 use native.Mathlib.Omega.{arith}
-use borrow.Kind.Array.{good_length, e_bool}
-use Rattle.cells.proofs.Search.{Upto, upto-start, upto_next, upto-hit, upto-end}
-use Rattle.cursor.specs.Stops.{is_stop}
+use Rattle.cells.proofs.Search.{upto_next, upto-hit, upto-end}
 use Rattle.cursor.proofs.next_stop.Goals as goal
 
 pub returns-then-stops-i : goal.returns-then-stops-i

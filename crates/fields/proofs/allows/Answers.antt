@@ -2,7 +2,6 @@
 use Rattle.fields.specs.Fields.{letters_take, digits_take, allowed}
 use mathlib.Core.Path.{refl}
 use borrow.Author.Tests.{eq-eqb, ne_eqb}
-use borrow.Author.Rules.{rules}
 use Rattle.fields.proofs.allows.Goals as goal
 
 pub returns-then-kind-eq2 : goal.returns-then-kind-eq2

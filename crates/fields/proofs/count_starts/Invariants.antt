@@ -1,12 +1,7 @@
 -- `fields::count_starts` meets its contract: the count at hand is that of the cells passed. Assumes nothing.
 use Prim.Native.Nat.{◌+◌, ◌-◌, ◌≤◌}
-use mathlib.Core.Logic.{⊎_elim}
-use mathlib.Core.Path.{refl, ap, ◌∙◌}
-use borrow.Author.Rules.{rules}
-use native.Mathlib.Omega.{arith}
-use Rattle.cells.specs.Search.{count_in}
-use Rattle.cells.proofs.Search.{Counted, counted_start, counted-hit, counted-miss}
-use Rattle.fields.proofs.Scans.{has_mark, count-marks}
+use Rattle.cells.proofs.Search.{Counted}
+use Rattle.fields.proofs.Scans.{has_mark}
 use Rattle.fields.proofs.count_starts.Given as goal
 
 abbrev pub invariant-loop-i : goal.invariant-loop-i

@@ -1,12 +1,7 @@
 -- `fields::field_end` meets its contract: up to the cell at hand none is marked. Assumes nothing.
 use Prim.Native.Nat.{◌+◌, ◌-◌, ◌≤◌}
-use mathlib.Core.Path.{refl, ap, ◌∙◌}
-use borrow.Author.Rules.{rules}
-use native.Mathlib.Omega.{arith}
-use Rattle.cells.specs.Search.{at_or}
-use Rattle.cells.proofs.Search.{Upto, upto-start, upto_next, upto-hit, upto-end}
-use Rattle.fields.specs.Fields.{field_end}
-use Rattle.fields.proofs.Scans.{has_mark, first_marks}
+use Rattle.cells.proofs.Search.{Upto}
+use Rattle.fields.proofs.Scans.{has_mark}
 use Rattle.fields.proofs.field_end.Given as goal
 
 abbrev pub invariant-loop-i : goal.invariant-loop-i

@@ -1,6 +1,5 @@
 -- `fields::find_target` meets its contract, test by test. Assumes nothing.
 use mathlib.Core.Path.{refl, sym, ◌∙◌}
-use borrow.Author.Rules.{rules}
 use Rattle.fields.specs.Fields.{target}
 use Rattle.fields.proofs.find_target.Goals as goal
 

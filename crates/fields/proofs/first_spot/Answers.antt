@@ -1,11 +1,8 @@
 -- `fields::first_spot` meets its contract: both loops' invariant is that no cell up to the one at hand is marked. Assumes nothing.
-use Prim.Native.Nat.{◌+◌, ◌-◌, ◌*◌, ◌≤◌}
 use mathlib.Core.Path.{◌∙◌}
-use borrow.Author.Rules.{rules}
 use native.Mathlib.Omega.{arith}
-use lib.ListN.{length}
-use Rattle.cells.proofs.Search.{Upto, upto-start, upto_next, upto-hit, upto-end}
-use Rattle.fields.proofs.Scans.{has_mark, first_marks}
+use Rattle.cells.proofs.Search.{upto_next, upto-hit, upto-end}
+use Rattle.fields.proofs.Scans.{first_marks}
 use Rattle.fields.proofs.Spots.{spot-at, spot-none, upto_skip}
 use Rattle.fields.proofs.first_spot.Goals as goal
 

@@ -1,6 +1,5 @@
 -- `fields::first_start` meets its contract: the cell of the place that `first_spot` finds. Assumes nothing.
 use mathlib.Core.Path.{sym}
-use borrow.Author.Rules.{rules}
 use native.Mathlib.Omega.{arith}
 use Rattle.fields.proofs.Spots.{first_cell, first-none, home-inside}
 use Rattle.fields.proofs.first_start.Goals as goal

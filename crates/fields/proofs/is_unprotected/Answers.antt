@@ -1,6 +1,5 @@
 -- `fields::is_unprotected` meets its contract: the kind is the callee's. Assumes nothing.
 use mathlib.Core.Path.{sym}
-use borrow.Author.Rules.{rules}
 use Rattle.fields.proofs.Scans.{unprotected-by}
 use Rattle.fields.proofs.is_unprotected.Goals as goal
 

@@ -1,9 +1,7 @@
 -- `fields::kind_at` meets its contract: from the cell at hand up to the cell none is marked. Assumes nothing.
 use Prim.Native.Nat.{◌+◌, ◌≤◌}
-use borrow.Author.Rules.{rules}
-use native.Mathlib.Omega.{arith}
-use Rattle.cells.proofs.Search.{Downto, down-start, down-next}
-use Rattle.fields.proofs.Scans.{has_mark, kind-hit, kind-none}
+use Rattle.cells.proofs.Search.{Downto}
+use Rattle.fields.proofs.Scans.{has_mark}
 use Rattle.fields.proofs.kind_at.Given as goal
 
 abbrev pub invariant-loop-i : goal.invariant-loop-i

@@ -1,11 +1,10 @@
 -- `fields::last_spot` meets its contract: both loops' invariant is that no cell from the one at hand on is marked. Assumes nothing.
-use Prim.Native.Nat.{◌+◌, ◌-◌, ◌*◌, ◌≤◌}
+use Prim.Native.Nat.{◌+◌, ◌-◌, ◌*◌}
 use mathlib.Core.Path.{ap, ◌∙◌}
-use borrow.Author.Rules.{rules}
 use native.Mathlib.Omega.{arith}
 use Rattle.cells.specs.declared.Found.TheVariants.{At}
-use Rattle.cells.proofs.Search.{Downto, down-start, down-next, down-move, down-hit, down-end}
-use Rattle.fields.proofs.Scans.{has_mark, last-marks}
+use Rattle.cells.proofs.Search.{down-next, down-hit, down-end}
+use Rattle.fields.proofs.Scans.{last-marks}
 use Rattle.fields.proofs.Spots.{spot-at, spot-none}
 use Rattle.fields.proofs.last_spot.Goals as goal
 

@@ -1,12 +1,7 @@
 -- `fields::last_spot` meets its contract: both loops' invariant is that no cell from the one at hand on is marked. Assumes nothing.
-use Prim.Native.Nat.{◌+◌, ◌-◌, ◌*◌, ◌≤◌}
-use mathlib.Core.Path.{ap, ◌∙◌}
-use borrow.Author.Rules.{rules}
-use native.Mathlib.Omega.{arith}
-use Rattle.cells.specs.declared.Found.TheVariants.{At}
-use Rattle.cells.proofs.Search.{Downto, down-start, down-next, down-move, down-hit, down-end}
-use Rattle.fields.proofs.Scans.{has_mark, last-marks}
-use Rattle.fields.proofs.Spots.{spot-at, spot-none}
+use Prim.Native.Nat.{◌+◌, ◌*◌, ◌≤◌}
+use Rattle.cells.proofs.Search.{Downto}
+use Rattle.fields.proofs.Scans.{has_mark}
 use Rattle.fields.proofs.last_spot.Given as goal
 
 abbrev pub invariant-loop-left : goal.invariant-loop-left

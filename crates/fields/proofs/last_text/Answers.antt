@@ -1,11 +1,9 @@
 -- `fields::last_text` meets its contract: from the cell at hand on all is blank. Assumes nothing.
-use Prim.Native.Nat.{◌≤◌}
 use mathlib.Core.Bool.{not}
-use mathlib.Core.Path.{refl, ap}
+use mathlib.Core.Path.{ap}
 use native.Mathlib.Omega.{arith}
 use borrow.Author.Tests.{eq-eqb, ne_eqb}
-use Rattle.cells.proofs.Search.{Downto, down-start, down-next, down-hit, down-end}
-use Rattle.fields.specs.Fields.{non_blank}
+use Rattle.cells.proofs.Search.{down-next, down-hit, down-end}
 use Rattle.fields.proofs.last_text.Goals as goal
 
 pub returns-then-v-ne32 : goal.returns-then-v-ne32

@@ -1,10 +1,6 @@
 -- `fields::last_text` meets its contract: from the cell at hand on all is blank. Assumes nothing.
 use Prim.Native.Nat.{◌≤◌}
-use mathlib.Core.Bool.{not}
-use mathlib.Core.Path.{refl, ap}
-use native.Mathlib.Omega.{arith}
-use borrow.Author.Tests.{eq-eqb, ne_eqb}
-use Rattle.cells.proofs.Search.{Downto, down-start, down-next, down-hit, down-end}
+use Rattle.cells.proofs.Search.{Downto}
 use Rattle.fields.specs.Fields.{non_blank}
 use Rattle.fields.proofs.last_text.Given as goal
 

@@ -1,5 +1,4 @@
 -- `fields::next_spot` meets its contract: what is not found behind the place is the first up to it. Assumes nothing.
-use borrow.Author.Rules.{rules}
 use native.Mathlib.Omega.{arith}
 use Rattle.fields.proofs.Spots.{next-after-spot, next-around-spot}
 use Rattle.fields.proofs.next_spot.Goals as goal

@@ -1,8 +1,6 @@
 -- `fields::next_start` meets its contract: the cell of the place that `next_spot` finds. Assumes nothing.
-use mathlib.Core.Path.{sym}
-use borrow.Author.Rules.{rules}
 use native.Mathlib.Omega.{arith}
-use Rattle.fields.proofs.Spots.{next-cell, next-none, next-inside}
+use Rattle.fields.proofs.Spots.{next-cell, next-inside}
 use Rattle.fields.proofs.next_start.Goals as goal
 
 pub overflow_mul-result : goal.overflow_mul-result

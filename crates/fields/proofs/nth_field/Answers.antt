@@ -1,13 +1,9 @@
 -- `fields::nth_field` meets its contract: the field sought from cell 0 on is the one with `left` before it from cell `i` on. Assumes nothing.
-use Prim.Native.Nat.{◌-◌, ◌≤◌}
-use mathlib.Core.Logic.{⊎_elim}
 use mathlib.Core.Path.{refl, sym, ◌∙◌}
-use borrow.Author.Rules.{rules}
 use native.Mathlib.Omega.{arith}
-use lib.ListN.{length}
-use Rattle.cells.proofs.Search.{Passed, passed_start, passed-miss, passed-next, passed-count, passed-hit, passed-end}
+use Rattle.cells.proofs.Search.{passed-miss, passed-next, passed-count, passed-hit, passed-end}
 use Rattle.fields.specs.Fields.{nth_field}
-use Rattle.fields.proofs.Scans.{has_mark, count-marks, nth-marks}
+use Rattle.fields.proofs.Scans.{count-marks, nth-marks}
 use Rattle.fields.proofs.nth_field.Goals as goal
 use Rattle.fields.proofs.nth_field.Goals.{then-has_mark+else-left-eq0, else-has_mark}
 

@@ -1,5 +1,4 @@
 -- `fields::prev_spot` meets its contract: what is not found before the place is the last from it on. Assumes nothing.
-use borrow.Author.Rules.{rules}
 use native.Mathlib.Omega.{arith}
 use Rattle.fields.proofs.Spots.{prev-before-spot, prev-around-spot}
 use Rattle.fields.proofs.prev_spot.Goals as goal

@@ -1,13 +1,8 @@
 -- `fields::row_under_text` meets its contract: from the cell at hand on all is blank. Assumes nothing.
 use Prim.Native.Nat.{◌≤◌}
-use mathlib.Core.Bool.{not}
-use mathlib.Core.Path.{refl, ap}
-use native.Mathlib.Omega.{arith}
-use borrow.Author.Tests.{eq-eqb}
 use lib.ListN.{length}
-use Rattle.cells.proofs.Search.{Downto, down-start, down-next, down-end}
-use Rattle.fields.specs.Fields.{non_blank, row_under, row_under_text}
-use Rattle.fields.proofs.Scans.{under-hit}
+use Rattle.cells.proofs.Search.{Downto}
+use Rattle.fields.specs.Fields.{non_blank}
 use Rattle.fields.proofs.row_under_text.Given as goal
 
 abbrev pub invariant-loop-i : goal.invariant-loop-i

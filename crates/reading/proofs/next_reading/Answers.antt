@@ -1,10 +1,10 @@
 -- `reading::next_reading` meets its contract: each arm at its actions, and the two laws for what is left. Assumes nothing.
 use Rattle.std.proofs.Common.{rules, tests}
 use mathlib.Core.Path.{sym}
-use mathlib.Core.Logic.{⊎_elim, inl, inr}
+use mathlib.Core.Logic.{⊎_elim}
 use native.Mathlib.Omega.{arith}
 use Rattle.reading.specs.Reading.{next_reading}
-use Rattle.reading.proofs.Rules.{next-ends, next-cursor}
+use Rattle.reading.proofs.Rules.{next-ends}
 use Rattle.reading.proofs.next_reading.Goals as goal
 
 pub returns-in-1 : goal.returns-in-1

@@ -1,5 +1,5 @@
 -- `runs::turn` meets its contract: an arm by its key, the last one by the keys that it refutes. Assumes nothing.
-use Rattle.std.proofs.Common.{rules, tests}
+use Rattle.std.proofs.Common.{rules, tests, arith}
 use Prim.Native.Nat.{ℕ}
 use mathlib.Core.Path.{◌≡◌, refl, sym, ap, ◌∙◌}
 use mathlib.Core.Logic.{inl, inr}
@@ -86,4 +86,24 @@ unfolding turned settled in_sequence addressed counted next_reading
 returns-in-60 c = rw c.in-60.is c.begin_number-in-60.ensures
 
 pub returns-in_default : goal.returns-in_default
-returns-in_default c = search (tests, rules)
+returns-in_default c =
+    let a = c.args.a in
+    sym (turned_none _ a _ _ _ (λ t. each (λ k. a ≡ k → ⊥)
+    (omega arith)
+    (omega arith)
+    (omega arith)
+    (omega arith)
+    (omega arith)
+    (omega arith)
+    (omega arith)
+    (omega arith)
+    (omega arith)
+    (omega arith)
+    (omega arith)
+    (omega arith)
+    (omega arith)
+    (omega arith)
+    (omega arith)
+    (omega arith)
+    (omega arith)
+    a t refl))

@@ -5,11 +5,11 @@ use Rattle.screen.proofs.clear_line.Goals as goal
 
 pub returns-then-is_unprotected : goal.returns-then-is_unprotected
 unfolding line_cleared cleared
-returns-then-is_unprotected c = rw (c.cell-k.true, ← c.slice_known-2-1.ensures, ← c.is_unprotected.ensures, c.if-is_unprotected.true) (cc)
+returns-then-is_unprotected c = rw (c.if-format.true, ← c.cell-k.ensures, ← c.is_unprotected.ensures, c.if-is_unprotected.true) (cc)
 
 pub returns-else-is_unprotected : goal.returns-else-is_unprotected
 unfolding line_cleared cleared
-returns-else-is_unprotected c = rw (c.cell-k.true, ← c.slice_known-2-1.ensures, ← c.is_unprotected.ensures, c.if-is_unprotected.false)
+returns-else-is_unprotected c = rw (c.if-format.true, ← c.cell-k.ensures, ← c.is_unprotected.ensures, c.if-is_unprotected.false)
 
 pub returns : goal.returns
 unfolding line_cleared cleared

@@ -5,7 +5,7 @@ use Rattle.screen.proofs.type_char.Goals as goal
 
 pub returns-then-format : goal.returns-then-format
 unfolding typed
-returns-then-format c = rw c.slice_known-2-1.true c.type_in.ensures
+returns-then-format c = rw c.if-format.true c.type_in.ensures
 
 pub returns : goal.returns
 unfolding typed

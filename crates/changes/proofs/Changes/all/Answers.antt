@@ -1,9 +1,6 @@
 -- `changes::Changes::all` meets its contract. Assumes nothing.
 use Prim.Native.Nat.{◌-◌}
 use native.Mathlib.Omega.{arith}
-use lib.Pow.{pow_pos}
-use borrow.Author.Rules.{rules}
-use Rattle.changes.specs.declared.Changes.{Changes}
 use Rattle.changes.proofs.Sets.{by-words}
 use Rattle.changes.proofs.Words.{all-low, all-high, shifted}
 use Rattle.changes.proofs.Changes.all.Goals as goal

@@ -1,10 +1,8 @@
 -- `changes::Changes::behind` meets its contract. Assumes nothing.
 use mathlib.Core.Bool.{true, false}
 use native.Mathlib.Omega.{arith}
-use borrow.Author.Rules.{rules}
-use Rattle.changes.specs.declared.Changes.{Changes}
 use Rattle.changes.proofs.Sets.{by-words, words_of}
-use Rattle.changes.proofs.Words.{doubled, high_fits}
+use Rattle.changes.proofs.Words.{doubled}
 use Rattle.changes.proofs.Changes.behind.Goals as goal
 
 pub returns-then-on : goal.returns-then-on

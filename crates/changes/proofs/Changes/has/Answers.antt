@@ -1,7 +1,5 @@
 -- `changes::Changes::has` meets its contract, by the word that has the row. Assumes nothing.
 use native.Mathlib.Omega.{arith}
-use borrow.Author.Rules.{rules}
-use Rattle.changes.specs.declared.Changes.{Changes}
 use Rattle.changes.proofs.Words.{has-low, has-high}
 use Rattle.changes.proofs.Changes.has.Goals as goal
 

@@ -3,8 +3,6 @@ use Prim.Native.Nat.{◌-◌}
 use mathlib.Core.Path.{ap, ◌∙◌}
 use native.Mathlib.Omega.{arith}
 use lib.Dec.{ltb}
-use borrow.Author.Rules.{rules}
-use Rattle.changes.specs.declared.Changes.{Changes}
 use Rattle.changes.proofs.Words.{spare_low, spare-high, spare-none, shifted}
 use Rattle.changes.proofs.Changes.is_good.Goals as goal
 

@@ -1,5 +1,4 @@
 -- `changes::Changes::join` meets its contract. Assumes nothing.
-use Rattle.changes.specs.declared.Changes.{Changes}
 use Rattle.changes.proofs.Sets.{by-words, words_of}
 use Rattle.changes.proofs.Words.{joined, joined-none}
 use Rattle.changes.proofs.Changes.join.Goals as goal

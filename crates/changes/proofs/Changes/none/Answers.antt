@@ -1,5 +1,4 @@
 -- `changes::Changes::none` meets its contract. Assumes nothing.
-use Rattle.changes.specs.declared.Changes.{Changes}
 use Rattle.changes.proofs.Sets.{by-words}
 use Rattle.changes.proofs.Words.{none-words}
 use Rattle.changes.proofs.Changes.none.Goals as goal

@@ -1,9 +1,7 @@
 -- `changes::Changes::one` meets its contract. Assumes nothing.
 use Prim.Native.Nat.{◌-◌}
 use native.Mathlib.Omega.{arith}
-use borrow.Author.Rules.{rules}
 use borrow.Author.Tests.{not-true, not-false}
-use Rattle.changes.specs.declared.Changes.{Changes}
 use Rattle.changes.proofs.Sets.{by-words, only_none}
 use Rattle.changes.proofs.Words.{none-words, one-low, one-high, shifted}
 use Rattle.changes.proofs.Changes.one.Goals as goal

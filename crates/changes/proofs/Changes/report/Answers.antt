@@ -2,9 +2,6 @@
 use Prim.Native.Nat.{ℕ}
 use mathlib.Core.Path.{ap₂}
 use native.Mathlib.Omega.{arith}
-use lib.Count.{ones-le, trailing_le}
-use borrow.Author.Rules.{rules}
-use Rattle.changes.specs.declared.Changes.{Changes}
 use Rattle.changes.specs.declared.Report.{Report}
 use Rattle.changes.proofs.Words.{report-count, report-low, report-high, report-none}
 use Rattle.changes.proofs.Changes.report.Goals as goal

@@ -1,6 +1,5 @@
 -- `Cursor::back_tab` meets its contract, by the stop that it finds and by what its calls give. Assumes nothing.
 use Rattle.cursor.specs.Stops.{back_tabbed}
-use borrow.Author.Rules.{rules}
 use Rattle.cursor.proofs.Cursor.back_tab.Goals as goal
 
 pub returns-in-At : goal.returns-in-At

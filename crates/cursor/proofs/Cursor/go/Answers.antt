@@ -1,5 +1,4 @@
 -- `Cursor::go` meets its contract, by what `top_for` gives. Assumes nothing.
-use borrow.Author.Rules.{rules}
 use Rattle.cursor.specs.Cursor.{gone}
 use Rattle.cursor.proofs.Cursor.go.Goals as goal
 

@@ -1,5 +1,4 @@
 -- `Cursor::go_down` meets its contract, by what its calls give. Assumes nothing.
-use borrow.Author.Rules.{rules}
 use Rattle.cursor.specs.Cursor.{gone_down}
 use Rattle.cursor.proofs.Cursor.go_down.Goals as goal
 

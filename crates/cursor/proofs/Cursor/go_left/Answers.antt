@@ -1,5 +1,4 @@
 -- `Cursor::go_left` meets its contract, by what its calls give. Assumes nothing.
-use borrow.Author.Rules.{rules}
 use Rattle.cursor.specs.Cursor.{gone_left}
 use Rattle.cursor.proofs.Cursor.go_left.Goals as goal
 

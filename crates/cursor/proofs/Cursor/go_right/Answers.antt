@@ -1,5 +1,4 @@
 -- `Cursor::go_right` meets its contract, by what its calls give. Assumes nothing.
-use borrow.Author.Rules.{rules}
 use Rattle.cursor.specs.Cursor.{gone_right}
 use Rattle.cursor.proofs.Cursor.go_right.Goals as goal
 

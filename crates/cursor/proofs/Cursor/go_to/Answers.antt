@@ -1,5 +1,4 @@
 -- `Cursor::go_to` meets its contract, by what `go` gives. Assumes nothing.
-use borrow.Author.Rules.{rules}
 use Rattle.cursor.specs.Cursor.{at_cell}
 use Rattle.cursor.proofs.Cursor.go_to.Goals as goal
 

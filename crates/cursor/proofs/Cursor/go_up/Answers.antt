@@ -1,5 +1,4 @@
 -- `Cursor::go_up` meets its contract, by what its calls give. Assumes nothing.
-use borrow.Author.Rules.{rules}
 use Rattle.cursor.specs.Cursor.{gone_up}
 use Rattle.cursor.proofs.Cursor.go_up.Goals as goal
 

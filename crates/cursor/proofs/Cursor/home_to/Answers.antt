@@ -1,5 +1,4 @@
 -- `Cursor::home_to` meets its contract, by what `go_to` gives. Assumes nothing.
-use borrow.Author.Rules.{rules}
 use Rattle.cursor.specs.Cursor.{home_at}
 use Rattle.cursor.proofs.Cursor.home_to.Goals as goal
 

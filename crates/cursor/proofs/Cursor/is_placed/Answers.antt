@@ -1,5 +1,4 @@
 -- `Cursor::is_placed` meets its contract: each test that fails refutes `InPlace`, and all that pass make it. Assumes nothing.
-use borrow.Author.Rules.{rules}
 use mathlib.Core.Path.{sym}
 use native.Mathlib.Omega.{arith}
 use Rattle.cursor.proofs.Place.{in_place, out-of-place}

@@ -1,5 +1,4 @@
 -- `Cursor::rise` meets its contract, by what `least` gives. Assumes nothing.
-use borrow.Author.Rules.{rules}
 use Rattle.cursor.specs.Cursor.{risen}
 use Rattle.cursor.proofs.Cursor.rise.Goals as goal
 

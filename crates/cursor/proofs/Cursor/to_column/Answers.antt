@@ -1,5 +1,4 @@
 -- `Cursor::to_column` meets its contract, by what its calls give. Assumes nothing.
-use borrow.Author.Rules.{rules}
 use Rattle.cursor.specs.Addressing.{to_column}
 use Rattle.cursor.proofs.Cursor.to_column.Goals as goal
 

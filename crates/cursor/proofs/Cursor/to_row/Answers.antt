@@ -1,5 +1,4 @@
 -- `Cursor::to_row` meets its contract, by what its calls give. Assumes nothing.
-use borrow.Author.Rules.{rules}
 use Rattle.cursor.specs.Addressing.{to_row}
 use Rattle.cursor.proofs.Cursor.to_row.Goals as goal
 

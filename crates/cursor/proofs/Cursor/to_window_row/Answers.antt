@@ -1,7 +1,6 @@
 -- `Cursor::to_window_row` meets its contract, by the test that it makes and by what its calls give. Assumes nothing.
 use borrow.Author.Tests.{eq-eqb, ne_eqb}
 use Rattle.cursor.specs.Addressing.{to_window_row}
-use borrow.Author.Rules.{rules}
 use Rattle.cursor.proofs.Cursor.to_window_row.Goals as goal
 
 pub returns-then-sign-eq0 : goal.returns-then-sign-eq0

@@ -1,7 +1,6 @@
 -- `reading::Number::count` meets its contract: each return is the choice that the tests before it make. Assumes nothing.
 use borrow.Author.Tests.{eq-eqb, ne_eqb}
 use Rattle.reading.specs.Reading.{counted}
-use borrow.Author.Rules.{rules}
 use Rattle.reading.proofs.Number.count.Goals as goal
 
 pub returns-then-a-eq-PLUS : goal.returns-then-a-eq-PLUS

@@ -1,0 +1,14 @@
+-- `terminal::Terminal::back_tab` meets its contract: by fields with format on, by tab stops with format off. Assumes nothing.
+use mathlib.Core.Path.{ap}
+use borrow.Author.Rules.{rules}
+use Rattle.terminal.specs.State.{placed}
+use Rattle.terminal.specs.Acts.{back_tabbed_by}
+use Rattle.terminal.proofs.Terminal.back_tab.Goals as goal
+
+pub returns-then-self : goal.returns-then-self
+unfolding back_tabbed_by
+returns-then-self c = ap (placed c.args.self) (rw c.if-self.true c.back_tab_in-self.ensures)
+
+pub returns : goal.returns
+unfolding back_tabbed_by
+returns c = ap (placed c.args.self) (rw c.if-self.false c.back_tab-self.ensures)

@@ -1,0 +1,7 @@
+-- `Terminal::reset_hard` meets its contract: both memories are filled whole. Assumes nothing.
+use borrow.Author.Rules.{rules}
+use Rattle.terminal.proofs.Blank.{reset-filled}
+use Rattle.terminal.proofs.Terminal.reset_hard.Goals as goal
+
+pub returns : goal.returns
+returns c = reset-filled c.args.rows c.args.chars.now c.args.attrs.now c.requires.1 c.requires.2 c.fresh_state.ensures c.fill.ensures c.fill-2.ensures
