@@ -1,0 +1,9 @@
+-- `inputs::fill`: what was read stands inside the array, and each turn reads at least a byte.
+use Rattle.std.proofs.Common.{length, ◌-◌, ◌≤◌}
+use Rattle.inputs.proofs.fill.Given as goal
+
+abbrev pub invariant-loop-size : goal.invariant-loop-size
+invariant-loop-size g l = l.size ≤ length l.bytes
+
+abbrev pub decreases-loop-size : goal.decreases-loop-size
+decreases-loop-size g l = length l.initial.bytes - l.size
