@@ -19,8 +19,7 @@ pub fn find(rt: &impl Env, is_session: bool) -> Asked {
     let mut is_bad = false;
     let mut files = 0;
     let n = inputs::word_count(rt);
-    let mut i = 1;
-    while i < n {
+    for i in 1..n {
         match word_at(rt, is_session, i) {
             1 => is_raw = true,
             2 => is_host = true,
@@ -30,7 +29,6 @@ pub fn find(rt: &impl Env, is_session: bool) -> Asked {
             6 => is_plain = true,
             _ => files = inputs::one_more(files),
         }
-        i += 1;
     }
     let way = Way {
         is_session: is_session,

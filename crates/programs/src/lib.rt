@@ -49,15 +49,13 @@ fn run_all(rt: &(impl Env + Files), stdin: Stdin, stdout: Stdout, stderr: Stderr
 fn run_files(rt: &(impl Env + Files), out: Output, page: &mut Page, a: Asked) -> Output {
     let n = inputs::word_count(rt);
     let mut o = out;
-    let mut i = 1;
-    while i < n {
+    for i in 1..n {
         if asked::is_file(rt, a.way.is_session, i) {
             o = run_file(rt, o, page, a, i);
         }
         if !o.is_well {
             return o;
         }
-        i += 1;
     }
     o
 }

@@ -32,14 +32,12 @@ fn find(rt: &impl Env) -> Words {
     let mut is_48 = false;
     let mut is_bad = false;
     let n = inputs::word_count(rt);
-    let mut i = 1;
-    while i < n {
+    for i in 1..n {
         match word_at(rt, i) {
             1 => is_48 = true,
             2 => is_bad = true,
             _ => files = inputs::one_more(files),
         }
-        i += 1;
     }
     Words {
         files: files,
@@ -82,8 +80,7 @@ fn run_files(rt: &(impl Env + Files), out: Output, page: &mut Page, files: u8) -
     let n = inputs::word_count(rt);
     let mut o = out;
     let mut is_48 = false;
-    let mut i = 1;
-    while i < n {
+    for i in 1..n {
         if word_at(rt, i) == 1 {
             is_48 = true;
         } else {
@@ -92,7 +89,6 @@ fn run_files(rt: &(impl Env + Files), out: Output, page: &mut Page, files: u8) -
         if !o.is_well {
             return o;
         }
-        i += 1;
     }
     o
 }
