@@ -1,7 +1,8 @@
 // What a program reads: a file's name before what is printed of it, its bytes chunk by chunk, and why it cannot be read.
 #![tactic(auto)]
 
-ghost use Rattle.std.specs.Prelude.{◌≤◌, length, IfOk};
+ghost use Rattle.std.specs.Prelude.{◌≤◌, ◌<◌, length, take, IfOk, IsNone};
+ghost use Rattle.std.specs.Io.KnownBytes.{Consumes, IsAtEnd};
 
 use printing::{Output, Page};
 use std::env::FillError;
@@ -83,9 +84,11 @@ pub struct Filled {
     pub failure: Option<Error>,
 }
 
-// Reads until the array is full, the file ends or a read fails.
-pub fn fill(file: &mut impl Read, bytes: &mut [u8]) -> Filled
-    ensures { result.size ≤ length bytes.new }
+// Reads until the array is full, the file ends or a read fails: what was read are the file's next bytes, and where fewer than the array has were read and no read failed, it has no more.
+pub fn fill<R: Read>(file: &mut R, bytes: &mut [u8]) -> Filled
+    ensures upper_bound { result.size ≤ length bytes.new }
+    ensures next { Consumes (R.remaining file.old) (R.remaining file.new) (take result.size bytes.new) }
+    ensures end { IsNone result.failure → result.size < length bytes.new → IsAtEnd (R.remaining file.new) }
 {
     let mut size = 0;
     while size < bytes.len() {
