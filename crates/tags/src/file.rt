@@ -143,7 +143,7 @@ fn tell_short(out: Output, page: &Page, size: usize, name: &[u8]) -> Output {
     let out = printing::send(out, page);
     if out.is_well {
         let stderr = out.stderr;
-        let _ = Print::write_all(&stderr, name);
+        let _ = stderr.write_all(name);
         let _ = eprintln!(stderr; ": 1: the owner table has 256 bytes, here are {size}");
     }
     out
