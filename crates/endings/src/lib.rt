@@ -3,8 +3,8 @@
 
 ghost use Rattle.std.specs.Prelude.{◌≡◌, cond, ◌≤◌};
 
-use libc::STDERR_FILENO;
 use printing::{Output, Page};
+use std::io::{Error, Stderr};
 use terminal::Terminal;
 
 // What a file is asked for: the lines of a session; or a terminal to be shown after session records, or after a host stream, as a picture, or raw for scripts; or
@@ -30,9 +30,9 @@ impl Way {
 }
 
 // A file that cannot be read to its end has no end line, no picture and no state. The line of replies to a host stream ends.
-pub fn break_off(out: Output, page: &mut Page, way: Way, name: &[u8]) -> Output {
+pub fn break_off(out: Output, page: &mut Page, way: Way, name: &[u8], error: &Error) -> Output {
     let out = printing::either(out, page, way.is_host && way.is_raw, b"\n", b"");
-    inputs::tell(out, page, name)
+    inputs::tell(out, page, name, error)
 }
 
 // The picture, or the lines for scripts; before them that the input ends inside a record, of which `rest` bytes are there. Behind the rows that the records change
@@ -92,16 +92,14 @@ fn end_lines(out: Output, page: &mut Page, number: u64, rest: usize, name: &[u8]
     }
     let out = printing::send(out, page);
     if out.is_well {
-        tell_rest(number, rest, name);
+        tell_rest(out.stderr, number, rest, name);
     }
     out
 }
 
-fn tell_rest(number: u64, rest: usize, name: &[u8]) {
-    io::write_all(STDERR_FILENO, name);
-    io::write_all(STDERR_FILENO, b": 12: the input ends inside record ");
-    io::print_decimal(STDERR_FILENO, number);
-    io::write_all(STDERR_FILENO, b", after ");
-    io::print_decimal(STDERR_FILENO, rest as u64);
-    io::write_all(STDERR_FILENO, b" of 84 bytes\n");
+fn tell_rest(stderr: Stderr, number: u64, rest: usize, name: &[u8]) {
+    let _ = stderr.write_all(name);
+    let _ = eprintln!(stderr;
+        ": 12: the input ends inside record {number}, after {rest} of 84 bytes"
+    );
 }

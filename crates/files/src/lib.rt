@@ -4,10 +4,11 @@
 use chunks::Progress;
 use endings::Way;
 use printing::{Output, Page};
+use std::io::{Error, Read};
 use terminal::Terminal;
 
 // Reads the file and prints what is asked for; `name` is what a failure calls it.
-pub fn run(out: Output, page: &mut Page, way: Way, fd: i32, name: &[u8]) -> Output {
+pub fn run<R: Read>(out: Output, page: &mut Page, way: Way, file: &mut R, name: &[u8]) -> Output {
     let mut chars = [32u8; 7680];
     let mut attrs = [0u8; 7680];
     let mut room = [0u8; 15360];
@@ -19,58 +20,58 @@ pub fn run(out: Output, page: &mut Page, way: Way, fd: i32, name: &[u8]) -> Outp
         &mut attrs[..cells],
         &mut room[..2 * cells],
         way,
-        fd,
+        file,
         name,
     )
 }
 
 // The same, with the memory lent, and a room that takes replies, or the lines of a session.
-fn run_on(
+fn run_on<R: Read>(
     out: Output,
     page: &mut Page,
     chars: &mut [u8],
     attrs: &mut [u8],
     room: &mut [u8],
     way: Way,
-    fd: i32,
+    file: &mut R,
     name: &[u8],
 ) -> Output {
-    let r = read(out, page, chars, attrs, room, way, fd);
+    let r = read(out, page, chars, attrs, room, way, file);
     let p = r.progress;
-    if r.is_well {
-        if way.is_session {
-            return chunks::end(p, page, room);
-        }
-        let t = p.state;
-        return endings::finish(p.out, page, t, chars, attrs, way, p.number, r.rest, name);
+    if let Some(error) = r.failure {
+        return endings::break_off(p.out, page, way, name, &error);
     }
-    endings::break_off(p.out, page, way, name)
+    if way.is_session {
+        return chunks::end(p, page, room);
+    }
+    let t = p.state;
+    endings::finish(p.out, page, t, chars, attrs, way, p.number, r.rest, name)
 }
 
-// A chunk that was read and run: how far the file came, the bytes behind the last record, whether the file is over, and whether no read failed.
+// A chunk that was read and run: how far the file came, the bytes behind the last record, whether the file is over, and why a read failed, if one did.
 #[derive(Clone, Copy)]
 struct Chunk {
     progress: Progress,
     rest: usize,
     is_over: bool,
-    is_well: bool,
+    failure: Option<Error>,
 }
 
 // Chunk by chunk to the end.
-fn read(
+fn read<R: Read>(
     out: Output,
     page: &mut Page,
     chars: &mut [u8],
     attrs: &mut [u8],
     room: &mut [u8],
     way: Way,
-    fd: i32,
+    file: &mut R,
 ) -> Chunk {
     let mut p = start(out, page, way);
     let mut bytes = [0u8; 8064];
     let mut turns = u64::MAX;
     loop {
-        let r = read_chunk(p, page, chars, attrs, &mut bytes, room, way, fd);
+        let r = read_chunk(p, page, chars, attrs, &mut bytes, room, way, file);
         if r.is_over {
             return r;
         }
@@ -105,7 +106,7 @@ fn begin(way: Way) -> Terminal {
 }
 
 // A chunk has 96 records; only the last may be shorter. Where a read fails, or a write, the file is over.
-fn read_chunk(
+fn read_chunk<R: Read>(
     p: Progress,
     page: &mut Page,
     chars: &mut [u8],
@@ -113,16 +114,16 @@ fn read_chunk(
     bytes: &mut [u8],
     room: &mut [u8],
     way: Way,
-    fd: i32,
+    file: &mut R,
 ) -> Chunk {
-    let got = inputs::fill(fd, bytes);
+    let got = inputs::fill(file, bytes);
     let n = inputs::whole(got, 84);
     let q = run_chunk(p, page, chars, attrs, &bytes[0..n], room, way);
     Chunk {
         progress: q,
         rest: got.size % 84,
         is_over: inputs::is_over(got, 8064, q.out),
-        is_well: got.is_well,
+        failure: got.failure,
     }
 }
 

@@ -1,25 +1,33 @@
 // Text on its way to standard output: it waits in a lent array, the page, and goes out when that is full or is sent.
 #![tactic(auto)]
 
+mod failing;
+
 ghost use Rattle.std.specs.Prelude.{◌≡◌, ◌+◌, ◌≤◌, length};
 
-use libc::STDOUT_FILENO;
+pub use failing::fail;
+use std::io::{Stderr, Stdout};
 
 // Where text waits: some kilobytes.
 pub type Page = [u8; 8192];
 
-// How many bytes wait on the page, and whether every write so far was taken. After one that failed nothing more is written.
+// How many bytes wait on the page, whether every write so far was taken, where the text goes, and where a failure is told. After a write that failed nothing more is
+// written.
 #[derive(Clone, Copy)]
 pub struct Output {
     pub waiting: usize,
     pub is_well: bool,
+    pub stdout: Stdout,
+    pub stderr: Stderr,
 }
 
 // Nothing waits, nothing failed.
-pub fn nothing() -> Output {
+pub fn nothing(stdout: Stdout, stderr: Stderr) -> Output {
     Output {
         waiting: 0,
         is_well: true,
+        stdout: stdout,
+        stderr: stderr,
     }
 }
 
@@ -35,26 +43,31 @@ fn send_first(out: Output, page: &[u8]) -> Output
     let n = out.waiting;
     if out.is_well {
         if n <= page.len() {
-            return write(&page[0..n]);
+            return write(out, &page[0..n]);
         }
     }
     Output {
         waiting: 0,
         is_well: false,
+        ..out
     }
 }
 
 // Writes bytes at once.
-fn write(bytes: &[u8]) -> Output
+fn write(out: Output, bytes: &[u8]) -> Output
     ensures { result.waiting ≡ 0 }
 {
-    let is_well = io::write_all(STDOUT_FILENO, bytes);
-    if !is_well {
-        os::fail(b"the output could not be written");
-    }
+    let is_well = match out.stdout.write_all(bytes) {
+        Ok(()) => true,
+        Err(error) => {
+            fail(out.stderr, b"the output could not be written", &error);
+            false
+        }
+    };
     Output {
         waiting: 0,
         is_well: is_well,
+        ..out
     }
 }
 
@@ -66,7 +79,7 @@ pub fn text(out: Output, page: &mut Page, bytes: &[u8]) -> Output {
     }
     let sent = send(out, page);
     if sent.is_well {
-        return write(bytes);
+        return write(sent, bytes);
     }
     sent
 }
@@ -81,15 +94,12 @@ fn put(out: Output, page: &mut [u8], bytes: &[u8]) -> Output
         copy(page, waiting, bytes);
         return Output {
             waiting: waiting + n,
-            is_well: out.is_well,
+            ..out
         };
     }
     let sent = send_first(out, page);
     copy(page, 0, bytes);
-    Output {
-        waiting: n,
-        is_well: sent.is_well,
-    }
+    Output { waiting: n, ..sent }
 }
 
 fn copy(page: &mut [u8], at: usize, bytes: &[u8])

@@ -1,5 +1,6 @@
 // What the words behind a program's name ask for.
 use endings::Way;
+use std::rt::Env;
 
 // `files` is 0, 1, or 2 for several; `is_bad` is for a word that begins with `-`, and for `changes` beside `host` or `raw`.
 #[derive(Clone, Copy)]
@@ -9,7 +10,7 @@ pub struct Asked {
     pub is_bad: bool,
 }
 
-pub fn find(is_session: bool) -> Asked {
+pub fn find(rt: &impl Env, is_session: bool) -> Asked {
     let mut is_host = false;
     let mut is_raw = false;
     let mut is_changes = false;
@@ -17,10 +18,9 @@ pub fn find(is_session: bool) -> Asked {
     let mut is_plain = false;
     let mut is_bad = false;
     let mut files = 0;
-    let n = os::arg_count();
-    let mut i = 1;
-    while i < n {
-        match word_at(is_session, i) {
+    let n = inputs::word_count(rt);
+    for i in 1..n {
+        match word_at(rt, is_session, i) {
             1 => is_raw = true,
             2 => is_host = true,
             3 => is_48 = true,
@@ -29,7 +29,6 @@ pub fn find(is_session: bool) -> Asked {
             6 => is_plain = true,
             _ => files = inputs::one_more(files),
         }
-        i += 1;
     }
     let way = Way {
         is_session: is_session,
@@ -47,15 +46,15 @@ pub fn find(is_session: bool) -> Asked {
 }
 
 // Whether word `i` names a file.
-pub fn is_file(is_session: bool, i: usize) -> bool {
-    word_at(is_session, i) == 0
+pub fn is_file(rt: &impl Env, is_session: bool, i: usize) -> bool {
+    word_at(rt, is_session, i) == 0
 }
 
 // 0 for the name of a file, 1 for `raw`, 2 for `host` and 4 for `changes`, which `session` takes for files, 3 for `48`, 5 for a word that begins with `-`, 6 for `plain`,
 // which `show` takes for a file.
-fn word_at(is_session: bool, i: usize) -> u8 {
+fn word_at(rt: &impl Env, is_session: bool, i: usize) -> u8 {
     let mut word = [0u8; 8];
-    let n = os::arg(i, &mut word);
+    let n = inputs::word(rt, i, &mut word);
     if word[0] == b'-' {
         return 5;
     }

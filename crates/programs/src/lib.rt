@@ -4,81 +4,77 @@
 mod asked;
 
 use asked::Asked;
-use libc::{STDERR_FILENO, STDIN_FILENO};
 use printing::{Output, Page};
+use std::io::{Stderr, Stdin, Stdout};
+use std::rt::{Env, Files};
 
 // The program `session`: for each record its number, its answer and its reply bytes; at the end the cursor's row, column and the window's top.
-pub fn session() {
-    let a = asked::find(true);
+pub fn session(rt: &(impl Env + Files), stdin: Stdin, stdout: Stdout, stderr: Stderr) {
+    let a = asked::find(rt, true);
     if a.is_bad {
-        io::write_all(
-            STDERR_FILENO,
+        let _ = stderr.write_all(
             b"usage: session [48] [plain] [FILE..]\nRuns session records, of standard input where no FILE is named, and prints the answer to each, from a terminal of 96 rows or, with 48, of 48.\nWith plain the host bytes are read by plain decisions and not by the table: the output is the same.\nWrite ./48 for a FILE named 48, ./plain for one named plain, ./-x for one named -x.\n",
         );
     } else {
-        run_all(a);
+        run_all(rt, stdin, stdout, stderr, a);
     }
 }
 
 // The program `show`: what the terminal holds after session records, or after a host stream, as a picture or raw; or the rows that each session record changes.
-pub fn show() {
-    let a = asked::find(false);
+pub fn show(rt: &(impl Env + Files), stdin: Stdin, stdout: Stdout, stderr: Stderr) {
+    let a = asked::find(rt, false);
     if a.is_bad {
-        io::write_all(
-            STDERR_FILENO,
+        let _ = stderr.write_all(
             b"usage: show [48] [host] [raw] [FILE..]\n       show [48] changes [FILE..]\nShows a terminal of 96 rows, or with 48 of 48 rows, after session records, or with host after a raw host stream, of standard input where no FILE is named; raw prints for scripts.\nWith changes it prints for each session record its number, its answer, how many rows it changed, the first of them (or the number of rows), and each of them.\nWrite ./raw for a FILE named raw, ./-x for one named -x.\n",
         );
     } else {
-        run_all(a);
+        run_all(rt, stdin, stdout, stderr, a);
     }
 }
 
 // Standard input, or each file that is named.
-fn run_all(a: Asked) {
+fn run_all(rt: &(impl Env + Files), stdin: Stdin, stdout: Stdout, stderr: Stderr, a: Asked) {
     let mut page = [0u8; 8192];
-    let out = printing::nothing();
+    let out = printing::nothing(stdout, stderr);
     if a.files == 0 {
-        let out = files::run(out, &mut page, a.way, STDIN_FILENO, b"standard input");
+        let mut file = stdin;
+        let out = files::run(out, &mut page, a.way, &mut file, b"standard input");
         printing::send(out, &page);
     } else {
-        let out = run_files(out, &mut page, a);
+        let out = run_files(rt, out, &mut page, a);
         printing::send(out, &page);
     }
 }
 
-fn run_files(out: Output, page: &mut Page, a: Asked) -> Output {
-    let n = os::arg_count();
+fn run_files(rt: &(impl Env + Files), out: Output, page: &mut Page, a: Asked) -> Output {
+    let n = inputs::word_count(rt);
     let mut o = out;
-    let mut i = 1;
-    while i < n {
-        if asked::is_file(a.way.is_session, i) {
-            o = run_file(o, page, a, i);
+    for i in 1..n {
+        if asked::is_file(rt, a.way.is_session, i) {
+            o = run_file(rt, o, page, a, i);
         }
         if !o.is_well {
             return o;
         }
-        i += 1;
     }
     o
 }
 
 // The file that word `i` names.
-fn run_file(out: Output, page: &mut Page, a: Asked, i: usize) -> Output {
-    let mut name = io::buffer();
-    let n = os::arg(i, &mut name);
-    if os::errno() != 0 {
-        return inputs::tell(out, page, b"a name of more than 4096 bytes");
+fn run_file(rt: &(impl Env + Files), out: Output, page: &mut Page, a: Asked, i: usize) -> Output {
+    let mut name = [0u8; 4096];
+    match inputs::name(rt, i, &mut name) {
+        Ok(n) => open(rt, out, page, a, &name[..n]),
+        Err(error) => inputs::tell(out, page, b"a name of more than 4096 bytes", &error),
     }
-    open(out, page, a, &name[..n])
 }
 
-fn open(out: Output, page: &mut Page, a: Asked, name: &[u8]) -> Output {
-    let fd = os::open_read(name);
-    if fd < 0 {
-        return inputs::tell(out, page, name);
+fn open(rt: &impl Files, out: Output, page: &mut Page, a: Asked, name: &[u8]) -> Output {
+    match inputs::open(rt, name) {
+        Ok(mut file) => {
+            let out = inputs::print_name(out, page, a.files, name);
+            files::run(out, page, a.way, &mut file, name)
+        }
+        Err(error) => inputs::tell(out, page, name, &error),
     }
-    let out = inputs::print_name(out, page, a.files, name);
-    let out = files::run(out, page, a.way, fd, name);
-    libc::close(fd);
-    out
 }

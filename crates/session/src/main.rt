@@ -2,6 +2,6 @@
 // among them that no file has.
 #![tactic(auto)]
 
-fn main() {
-    programs::session();
+fn main(rt: HostRuntime) {
+    programs::session(&rt, rt.stdin(), rt.stdout(), rt.stderr());
 }

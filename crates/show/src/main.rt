@@ -1,6 +1,6 @@
 // Shows what the terminal holds after session records, or after a host stream.
 #![tactic(auto)]
 
-fn main() {
-    programs::show();
+fn main(rt: HostRuntime) {
+    programs::show(&rt, rt.stdin(), rt.stdout(), rt.stderr());
 }

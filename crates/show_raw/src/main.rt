@@ -1,6 +1,6 @@
 // The program `show` with the word `raw`, run on files.
 #![tactic(auto)]
 
-fn main() {
-    programs::show();
+fn main(rt: HostRuntime) {
+    programs::show(&rt, rt.stdin(), rt.stdout(), rt.stderr());
 }

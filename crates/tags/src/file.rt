@@ -2,47 +2,65 @@
 ghost use Rattle.std.specs.Prelude.{◌≡◌, ◌*◌, ◌≤◌, length};
 
 use calls::Progress;
-use libc::STDERR_FILENO;
 use printing::{Output, Page};
+use std::io::{Error, ErrorKind, Read};
 use terminal::Terminal;
 
 // Reads the file and prints a line a call, and the end line; `name` is what a failure calls it.
-pub fn run(out: Output, page: &mut Page, is_48: bool, fd: i32, name: &[u8]) -> Output {
+pub fn run<R: Read>(
+    out: Output,
+    page: &mut Page,
+    is_48: bool,
+    file: &mut R,
+    name: &[u8],
+) -> Output {
     let mut owners = [0u8; 256];
-    let got = inputs::fill(fd, &mut owners);
-    if got.is_well {
-        if got.size < 256 {
-            return tell_short(out, page, got.size, name);
-        }
-        return if is_48 {
-            run_48(out, page, &owners, fd, name)
-        } else {
-            run_96(out, page, &owners, fd, name)
-        };
+    let got = inputs::fill(file, &mut owners);
+    if let Some(error) = got.failure {
+        return inputs::tell(out, page, name, &error);
     }
-    inputs::tell(out, page, name)
+    if got.size < 256 {
+        return tell_short(out, page, got.size, name);
+    }
+    if is_48 {
+        run_48(out, page, &owners, file, name)
+    } else {
+        run_96(out, page, &owners, file, name)
+    }
 }
 
-fn run_96(out: Output, page: &mut Page, owners: &[u8], fd: i32, name: &[u8]) -> Output {
+fn run_96<R: Read>(
+    out: Output,
+    page: &mut Page,
+    owners: &[u8],
+    file: &mut R,
+    name: &[u8],
+) -> Output {
     let mut chars = [32u8; 7680];
     let mut attrs = [0u8; 7680];
     let mut reply = [0u8; 15360];
     run_on(
-        out, page, 96, &mut chars, &mut attrs, owners, &mut reply, fd, name,
+        out, page, 96, &mut chars, &mut attrs, owners, &mut reply, file, name,
     )
 }
 
-fn run_48(out: Output, page: &mut Page, owners: &[u8], fd: i32, name: &[u8]) -> Output {
+fn run_48<R: Read>(
+    out: Output,
+    page: &mut Page,
+    owners: &[u8],
+    file: &mut R,
+    name: &[u8],
+) -> Output {
     let mut chars = [32u8; 3840];
     let mut attrs = [0u8; 3840];
     let mut reply = [0u8; 7680];
     run_on(
-        out, page, 48, &mut chars, &mut attrs, owners, &mut reply, fd, name,
+        out, page, 48, &mut chars, &mut attrs, owners, &mut reply, file, name,
     )
 }
 
 // Chunk by chunk to the end, with the memory lent. A file that fails while it is read has no end line.
-fn run_on(
+fn run_on<R: Read>(
     out: Output,
     page: &mut Page,
     rows: usize,
@@ -50,7 +68,7 @@ fn run_on(
     attrs: &mut [u8],
     owners: &[u8],
     reply: &mut [u8],
-    fd: i32,
+    file: &mut R,
     name: &[u8],
 ) -> Output
     requires { (24 ≤ rows) × (rows ≤ 96) × (length reply.old ≡ rows * 160) }
@@ -63,7 +81,7 @@ fn run_on(
     let mut bytes = [0u8; 8160];
     let mut turns = u64::MAX;
     loop {
-        let got = inputs::fill(fd, &mut bytes);
+        let got = inputs::fill(file, &mut bytes);
         p = run_chunk(
             p,
             page,
@@ -75,10 +93,10 @@ fn run_on(
             reply,
         );
         if inputs::is_over(got, 8160, p.out) {
-            return finish(p, page, got.is_well, name);
+            return finish(p, page, got.failure, name);
         }
         if turns == 0 {
-            return finish(p, page, false, name);
+            return finish(p, page, Some(Error::from(ErrorKind::FileTooLarge)), name);
         }
         turns -= 1;
     }
@@ -108,9 +126,9 @@ fn run_chunk(
 }
 
 // The end line: the cursor's row and column, and the window's top.
-fn finish(p: Progress, page: &mut Page, is_well: bool, name: &[u8]) -> Output {
-    if !is_well {
-        return inputs::tell(p.out, page, name);
+fn finish(p: Progress, page: &mut Page, failure: Option<Error>, name: &[u8]) -> Output {
+    if let Some(error) = failure {
+        return inputs::tell(p.out, page, name, &error);
     }
     let t = p.state;
     let c = t.cursor;
@@ -124,13 +142,9 @@ fn finish(p: Progress, page: &mut Page, is_well: bool, name: &[u8]) -> Output {
 fn tell_short(out: Output, page: &Page, size: usize, name: &[u8]) -> Output {
     let out = printing::send(out, page);
     if out.is_well {
-        io::write_all(STDERR_FILENO, name);
-        io::write_all(
-            STDERR_FILENO,
-            b": 1: the owner table has 256 bytes, here are ",
-        );
-        io::print_decimal(STDERR_FILENO, size as u64);
-        io::write_all(STDERR_FILENO, b"\n");
+        let stderr = out.stderr;
+        let _ = stderr.write_all(name);
+        let _ = eprintln!(stderr; ": 1: the owner table has 256 bytes, here are {size}");
     }
     out
 }

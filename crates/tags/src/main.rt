@@ -4,18 +4,18 @@
 
 mod file;
 
-use libc::{STDERR_FILENO, STDIN_FILENO};
 use printing::{Output, Page};
+use std::io::{Stderr, Stdin, Stdout};
+use std::rt::{Env, Files};
 
-fn main() {
-    let w = find();
+fn main(rt: HostRuntime) {
+    let w = find(&rt);
     if w.is_bad {
-        io::write_all(
-            STDERR_FILENO,
+        let _ = rt.stderr().write_all(
             b"usage: tags [[48] FILE..]\nRuns the calls of host, operator and two readers, of standard input where no FILE is named, and prints the answer to each, from a terminal of 96 rows or, of the files behind the word 48, of 48.\nA FILE begins with the owner table, 256 bytes; then each call has 85: the reader's number, 0 for none, and a session record, of kind R where a reader reads a field back.\nWrite ./48 for a FILE named 48, ./-x for one named -x.\n",
         );
     } else {
-        run_all(w);
+        run_all(&rt, rt.stdin(), rt.stdout(), rt.stderr(), w);
     }
 }
 
@@ -27,19 +27,17 @@ struct Words {
     is_bad: bool,
 }
 
-fn find() -> Words {
+fn find(rt: &impl Env) -> Words {
     let mut files = 0;
     let mut is_48 = false;
     let mut is_bad = false;
-    let n = os::arg_count();
-    let mut i = 1;
-    while i < n {
-        match word_at(i) {
+    let n = inputs::word_count(rt);
+    for i in 1..n {
+        match word_at(rt, i) {
             1 => is_48 = true,
             2 => is_bad = true,
             _ => files = inputs::one_more(files),
         }
-        i += 1;
     }
     Words {
         files: files,
@@ -49,9 +47,9 @@ fn find() -> Words {
 }
 
 // 0 for the name of a file, 1 for `48`, 2 for a word that begins with `-`.
-fn word_at(i: usize) -> u8 {
+fn word_at(rt: &impl Env, i: usize) -> u8 {
     let mut word = [0u8; 8];
-    let n = os::arg(i, &mut word);
+    let n = inputs::word(rt, i, &mut word);
     if word[0] == b'-' {
         return 2;
     }
@@ -64,55 +62,66 @@ fn word_at(i: usize) -> u8 {
 }
 
 // Standard input, or each file that is named.
-fn run_all(w: Words) {
+fn run_all(rt: &(impl Env + Files), stdin: Stdin, stdout: Stdout, stderr: Stderr, w: Words) {
     let mut page = [0u8; 8192];
-    let out = printing::nothing();
+    let out = printing::nothing(stdout, stderr);
     if w.files == 0 {
-        let out = file::run(out, &mut page, w.is_48, STDIN_FILENO, b"standard input");
+        let mut file = stdin;
+        let out = file::run(out, &mut page, w.is_48, &mut file, b"standard input");
         printing::send(out, &page);
     } else {
-        let out = run_files(out, &mut page, w.files);
+        let out = run_files(rt, out, &mut page, w.files);
         printing::send(out, &page);
     }
 }
 
 // The word 48 holds for the files behind it. After a write that failed nothing more is run.
-fn run_files(out: Output, page: &mut Page, files: u8) -> Output {
-    let n = os::arg_count();
+fn run_files(rt: &(impl Env + Files), out: Output, page: &mut Page, files: u8) -> Output {
+    let n = inputs::word_count(rt);
     let mut o = out;
     let mut is_48 = false;
-    let mut i = 1;
-    while i < n {
-        if word_at(i) == 1 {
+    for i in 1..n {
+        if word_at(rt, i) == 1 {
             is_48 = true;
         } else {
-            o = run_file(o, page, files, is_48, i);
+            o = run_file(rt, o, page, files, is_48, i);
         }
         if !o.is_well {
             return o;
         }
-        i += 1;
     }
     o
 }
 
 // The file that word `i` names.
-fn run_file(out: Output, page: &mut Page, files: u8, is_48: bool, i: usize) -> Output {
-    let mut name = io::buffer();
-    let n = os::arg(i, &mut name);
-    if os::errno() != 0 {
-        return inputs::tell(out, page, b"a name of more than 4096 bytes");
+fn run_file(
+    rt: &(impl Env + Files),
+    out: Output,
+    page: &mut Page,
+    files: u8,
+    is_48: bool,
+    i: usize,
+) -> Output {
+    let mut name = [0u8; 4096];
+    match inputs::name(rt, i, &mut name) {
+        Ok(n) => open(rt, out, page, files, is_48, &name[..n]),
+        Err(error) => inputs::tell(out, page, b"a name of more than 4096 bytes", &error),
     }
-    open(out, page, files, is_48, &name[..n])
 }
 
-fn open(out: Output, page: &mut Page, files: u8, is_48: bool, name: &[u8]) -> Output {
-    let fd = os::open_read(name);
-    if fd < 0 {
-        return inputs::tell(out, page, name);
+fn open(
+    rt: &impl Files,
+    out: Output,
+    page: &mut Page,
+    files: u8,
+    is_48: bool,
+    name: &[u8],
+) -> Output {
+    match inputs::open(rt, name) {
+        Ok(mut file) => {
+            let out = inputs::print_name(out, page, files, name);
+            file::run(out, page, is_48, &mut file, name)
+        }
+        Err(error) => inputs::tell(out, page, name, &error),
     }
-    let out = inputs::print_name(out, page, files, name);
-    let out = file::run(out, page, is_48, fd, name);
-    libc::close(fd);
-    out
 }
