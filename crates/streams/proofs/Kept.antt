@@ -52,10 +52,10 @@ sound-by e s = rw e s
 -- ---- a stream
 pub fed_on-sound : {rows : ℕ} {w : World} → Sound rows w → (bytes : List ℕ) (taken sent : ℕ) (reply : List ℕ) → Sound rows (fed_on rows bytes taken sent w reply).world
 unfolding fed_on
-fed_on-sound s [] taken sent reply = s
-fed_on-sound {rows} {w} s (b ∷ bs) taken sent reply =
+fed_on-sound {rows = rows} {w = w} s [] taken sent reply = s
+fed_on-sound {rows = rows} {w = w} s (b ∷ bs) taken sent reply =
     either (λ (h : Hosted). Sound rows h.world) (leb (sent + length (answer_to b w)) (length reply))
-    (fed_on-sound (stepped-sound s b) bs (taken + 1) (sent + length (answer_to b w)) _) s
+    (fed_on-sound {w = stepped rows b w} (stepped-sound s b) bs (taken + 1) (sent + length (answer_to b w)) _) s
 
 -- what a stream that is read has, and what a call refused with 1 or 2 has, any call has
 pub fed_by :

@@ -35,15 +35,15 @@ pub fed_on-protects :
     {rows : ℕ} {w : World} → Sound rows w → (bytes : List ℕ) (taken sent : ℕ) (reply : List ℕ) (n : ℕ) → sent ≤ length reply →
     (fed_on rows bytes taken sent w reply).taken ≡ taken + n → StaysOn rows (take n bytes) w → Protects w (fed_on rows bytes taken sent w reply).world
 unfolding fed_on
-fed_on-protects s [] taken sent reply n l e on = protects-same refl refl
-fed_on-protects {rows} {w} s (b ∷ bytes) taken sent reply n l e on =
+fed_on-protects {rows = rows} {w = w} s [] taken sent reply n l e on = protects-same refl refl
+fed_on-protects {rows = rows} {w = w} s (b ∷ bytes) taken sent reply n l e on =
     choose-by (λ (h : Hosted). h.taken ≡ taken + n → Protects w h.world) (leb (sent + length (answer_to b w)) (length reply))
     (λ t.
     let room = leb-true (sent + length (answer_to b w)) (length reply) t in
     let fits : sent + length (answer_to b w) ≤ length (written reply sent (answer_to b w)) = omega (arith, length-written reply sent (answer_to b w) room) in
     let h = fed_on rows bytes (taken + 1) (sent + length (answer_to b w)) (stepped rows b w) (written reply sent (answer_to b w)) in
     more h n (fed_on-counts rows bytes (taken + 1) (sent + length (answer_to b w)) (stepped rows b w) (written reply sent (answer_to b w)) fits).taken-from
-    (λ m. fed_on-protects (stepped-sound s b) bytes (taken + 1) (sent + length (answer_to b w)) (written reply sent (answer_to b w)) m fits) on)
+    (λ m. fed_on-protects {w = stepped rows b w} (stepped-sound s b) bytes (taken + 1) (sent + length (answer_to b w)) (written reply sent (answer_to b w)) m fits) on)
     (λ _ _. protects-same refl refl) e
   where
     more :

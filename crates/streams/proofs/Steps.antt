@@ -38,8 +38,8 @@ answers-append rows (b ∷ xs) ys w = ap (λ (r : List ℕ). answer_to b w ++ r)
 
 pub stepped_on-sound : {rows : ℕ} {w : World} → Sound rows w → (bytes : List ℕ) → Sound rows (stepped_on rows bytes w)
 unfolding stepped_on
-stepped_on-sound s [] = s
-stepped_on-sound s (b ∷ bs) = stepped_on-sound (stepped-sound s b) bs
+stepped_on-sound {rows = rows} {w = w} s [] = s
+stepped_on-sound {rows = rows} {w = w} s (b ∷ bs) = stepped_on-sound {w = stepped rows b w} (stepped-sound s b) bs
 
 -- ---- what a stream leaves that is taken whole
 abbrev pub wholly_fed : ℕ → List ℕ → ℕ → ℕ → World → List ℕ → Hosted

@@ -1,13 +1,10 @@
 -- `clearing::clear_rest` meets its contract: the cells before `i` are cleared, and behind the first none up to `i` bears a mark. Assumes nothing.
-use Prim.Native.Nat.{◌+◌, ◌-◌, ◌≤◌, ◌<◌}
+use Prim.Native.Nat.{◌+◌}
 use mathlib.Core.Path.{◌≡◌, refl, ap, sym, ◌∙◌}
-use mathlib.Core.Logic.{⊎_elim}
-use borrow.Author.Rules.{rules}
 use native.Mathlib.Omega.{arith}
-use lib.ListN.{length, get_or, length-set}
 use Rattle.cells.specs.Search.{at_or}
-use Rattle.cells.proofs.Search.{Upto, upto-start, upto_next, upto-hit, upto-end}
-use Rattle.cells.proofs.Patch.{Cells, none, stored, done-upto}
+use Rattle.cells.proofs.Search.{upto_next, upto-hit, upto-end}
+use Rattle.cells.proofs.Patch.{stored, done-upto}
 use Rattle.fields.specs.Fields.{marks, stripped, end_of_row, field_end}
 use Rattle.fields.proofs.Scans.{has_mark, first_marks}
 use Rattle.clearing.proofs.clear_rest.Goals as goal

@@ -1,16 +1,11 @@
 -- `clearing::clear_unprotected` meets its contract: the cells up to `i` are cleared where unprotected, and `kind` with cell `i`'s mark gives its kind.
 -- Assumes nothing.
-use Prim.Native.Nat.{ℕ, ◌-◌, ◌≤◌}
+use Prim.Native.Nat.{◌-◌, ◌≤◌}
 use mathlib.Core.Bool.{cond}
-use mathlib.Core.Logic.{⊎_elim}
-use mathlib.Core.Path.{refl, ap, sym, ◌∙◌}
-use borrow.Author.Rules.{rules}
-use native.Mathlib.Omega.{arith}
 use lib.ListN.{length, get_or}
-use Rattle.cells.proofs.Patch.{Cells, none, stored, skip, done-where}
-use Rattle.fields.specs.Fields.{mark_of, marks, stripped, unprotected}
-use Rattle.fields.specs.Walk.{kind_after}
-use Rattle.fields.proofs.Scans.{Onward, onward-start, onward-next, unprotected-by}
+use Rattle.cells.proofs.Patch.{Cells}
+use Rattle.fields.specs.Fields.{marks, stripped, unprotected}
+use Rattle.fields.proofs.Scans.{Onward}
 use Rattle.clearing.proofs.clear_unprotected.Given as goal
 
 abbrev pub invariant-loop-i : goal.invariant-loop-i

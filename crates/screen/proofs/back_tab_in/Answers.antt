@@ -1,5 +1,4 @@
 -- `screen::back_tab_in` meets its contract: by what `prev_spot` finds. Assumes nothing.
-use borrow.Author.Rules.{rules}
 use Rattle.screen.specs.Edits.{back_tabbed_in}
 use Rattle.screen.proofs.Tabs.{gone-in, gone-nowhere}
 use Rattle.screen.proofs.back_tab_in.Goals as goal

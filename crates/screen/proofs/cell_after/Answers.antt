@@ -1,7 +1,6 @@
 -- `screen::cell_after` meets its contract, by the field's end and by what the search for the next start finds. Assumes nothing.
 use Rattle.screen.specs.Edits.{cell_after}
 use borrow.Author.Tests.{lt-ltb, le-ltb}
-use borrow.Author.Rules.{rules}
 use Rattle.screen.proofs.cell_after.Goals as goal
 
 pub returns-then-k-end : goal.returns-then-k-end

@@ -1,6 +1,5 @@
 -- `screen::clear_display` meets its contract: by the format, and by what the callees leave. Assumes nothing.
 use Rattle.screen.specs.Edits.{cleared, display_cleared}
-use borrow.Author.Rules.{rules}
 use Rattle.screen.proofs.clear_display.Goals as goal
 
 pub returns-then-format : goal.returns-then-format

@@ -1,6 +1,5 @@
 -- `screen::clear_line` meets its contract: by the format, by whether the cursor is in a field, and by what the callees leave. Assumes nothing.
 use Rattle.screen.specs.Edits.{cleared, line_cleared}
-use borrow.Author.Rules.{rules}
 use Rattle.screen.proofs.clear_line.Goals as goal
 
 pub returns-then-is_unprotected : goal.returns-then-is_unprotected

@@ -3,7 +3,6 @@ use Rattle.screen.specs.Edits.{char_deleted}
 use Rattle.fields.proofs.Fields.{field-ends}
 use Rattle.fields.specs.Fields.{marks}
 use native.Mathlib.Omega.{arith}
-use borrow.Author.Rules.{rules}
 use Rattle.screen.proofs.delete_char.Goals as goal
 
 pub shift_left-requires : goal.shift_left-requires

@@ -1,6 +1,5 @@
 -- `screen::delete_row` meets its contract: by the format, and by what its calls give. Assumes nothing.
 use Rattle.screen.specs.Edits.{row_deleted}
-use borrow.Author.Rules.{rules}
 use Rattle.screen.proofs.delete_row.Goals as goal
 
 pub returns-then-format : goal.returns-then-format

@@ -1,6 +1,5 @@
 -- `screen::enhance` meets its contract: by the format. Assumes nothing.
 use Rattle.screen.specs.Edits.{enhanced}
-use borrow.Author.Rules.{rules}
 use Rattle.screen.proofs.enhance.Goals as goal
 
 pub returns-then-format : goal.returns-then-format

@@ -1,7 +1,6 @@
 -- `screen::feed_line` meets its contract, test by test. Assumes nothing.
 use Rattle.screen.specs.Edits.{line_fed}
 use borrow.Author.Tests.{lt-ltb, le-ltb}
-use borrow.Author.Rules.{rules}
 use Rattle.screen.proofs.feed_line.Goals as goal
 
 pub returns-then-cursor-rows : goal.returns-then-cursor-rows

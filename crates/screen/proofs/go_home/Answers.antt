@@ -1,6 +1,5 @@
 -- `screen::go_home` meets its contract: by the format and by what `first_start` finds. Assumes nothing.
 use Rattle.screen.specs.Edits.{homed}
-use borrow.Author.Rules.{rules}
 use Rattle.screen.proofs.go_home.Goals as goal
 
 pub returns-in-At : goal.returns-in-At

@@ -1,6 +1,5 @@
 -- `screen::go_home_down` meets its contract, by what its calls give. Assumes nothing.
 use Rattle.screen.specs.Edits.{homed_down}
-use borrow.Author.Rules.{rules}
 use Rattle.screen.proofs.go_home_down.Goals as goal
 
 pub returns : goal.returns

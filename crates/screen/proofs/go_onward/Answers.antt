@@ -1,7 +1,6 @@
 -- `screen::go_onward` meets its contract, by the test for the last cell and by what its calls give. Assumes nothing.
 use Rattle.screen.specs.Edits.{onward}
 use borrow.Author.Tests.{lt-ltb, le-ltb}
-use borrow.Author.Rules.{rules}
 use Rattle.screen.proofs.go_onward.Goals as goal
 
 pub returns-then-next-rows : goal.returns-then-next-rows

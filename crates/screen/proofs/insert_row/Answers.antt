@@ -1,6 +1,5 @@
 -- `screen::insert_row` meets its contract: by the format, and by what its calls give. Assumes nothing.
 use Rattle.screen.specs.Edits.{row_inserted}
-use borrow.Author.Rules.{rules}
 use Rattle.screen.proofs.insert_row.Goals as goal
 
 pub returns-then-format : goal.returns-then-format

@@ -1,6 +1,5 @@
 -- `screen::put_char` meets its contract, by cases on insert mode. Assumes nothing.
 use Rattle.screen.specs.Edits.{put}
-use borrow.Author.Rules.{rules}
 use Rattle.screen.proofs.put_char.Goals as goal
 
 pub returns-then-insert : goal.returns-then-insert

@@ -1,7 +1,5 @@
 -- `screen::set_mark` meets its contract: by the format; an attribute is a byte. Assumes nothing.
 use Rattle.screen.specs.Edits.{mark_set}
-use native.Mathlib.Omega.{arith}
-use borrow.Author.Rules.{rules}
 use Rattle.screen.proofs.set_mark.Goals as goal
 
 pub returns-then-format : goal.returns-then-format

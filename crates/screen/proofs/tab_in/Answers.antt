@@ -1,5 +1,4 @@
 -- `screen::tab_in` meets its contract: by what `next_spot` finds. Assumes nothing.
-use borrow.Author.Rules.{rules}
 use Rattle.screen.specs.Edits.{tabbed_in}
 use Rattle.screen.proofs.Tabs.{gone-in, gone-nowhere}
 use Rattle.screen.proofs.tab_in.Goals as goal

@@ -1,6 +1,5 @@
 -- `screen::turn_mark` meets its contract: by the mark that is there, and by what `set_mark` gives. Assumes nothing.
 use Rattle.screen.specs.Edits.{mark_turned}
-use borrow.Author.Rules.{rules}
 use Rattle.screen.proofs.turn_mark.Goals as goal
 
 pub returns-then-has_mark : goal.returns-then-has_mark

@@ -3,7 +3,6 @@ use Rattle.screen.specs.Edits.{typed_at_cell}
 use Rattle.fields.proofs.Fields.{field-ends}
 use Rattle.fields.specs.Fields.{marks}
 use native.Mathlib.Omega.{arith}
-use borrow.Author.Rules.{rules}
 use Rattle.screen.proofs.type_at.Goals as goal
 
 pub put_char-requires : goal.put_char-requires

@@ -1,6 +1,5 @@
 -- `screen::type_char` meets its contract, by cases on format mode. Assumes nothing.
 use Rattle.screen.specs.Edits.{typed}
-use borrow.Author.Rules.{rules}
 use Rattle.screen.proofs.type_char.Goals as goal
 
 pub returns-then-format : goal.returns-then-format

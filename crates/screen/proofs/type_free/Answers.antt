@@ -1,6 +1,5 @@
 -- `screen::type_free` meets its contract, by what its calls give. Assumes nothing.
 use Rattle.screen.specs.Edits.{typed_free}
-use borrow.Author.Rules.{rules}
 use Rattle.screen.proofs.type_free.Goals as goal
 
 pub returns : goal.returns

@@ -3,7 +3,6 @@ use mathlib.Core.Path.{sym, ◌∙◌}
 use native.Mathlib.Omega.{arith}
 use Rattle.screen.specs.Edits.{typed_in}
 use Rattle.screen.proofs.Target.{target-inside}
-use borrow.Author.Rules.{rules}
 use Rattle.screen.proofs.type_in.Goals as goal
 
 pub kind_at-kind-requires : goal.kind_at-kind-requires
