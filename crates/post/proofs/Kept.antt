@@ -29,7 +29,7 @@ use Rattle.terminal.proofs.Refusals.{passed}
 use Rattle.terminal.proofs.Good.{sound-in}
 use Rattle.terminal.proofs.Noted.{good-flagged, noted-long, noted-sound, noted-if}
 use Rattle.post.specs.Posts.{Posted, all_fit, is_too_long, misfits, post_refusal, posted_at, posted_to}
-use Rattle.post.specs.Field.{field_refusal, posted_in, refusal_if, posted_if, entered, numbered}
+use Rattle.post.specs.Field.{field_refusal, posted_in, entered, field_refusal_if, posted_in_if, refusal_if, posted_if, entered_if, numbered}
 
 -- what a post into the field that starts at cell k leaves
 unfoldable pub done : ℕ → World → List ℕ → ℕ → Posted
@@ -44,13 +44,13 @@ pub record PostOpen (rows : ℕ) (w : World) : Type 0 where
 
 -- ---- a post that passes the first four tests goes by its field
 pub post-open : {rows : ℕ} {w : World} → PostOpen rows w → (owned : Bool) (field : ℕ) (text : List ℕ)
-    → entered rows w owned field text ≡ posted_in w owned text (nth_field (marks w.attrs) field)
-unfolding entered refusal_if posted_in field_refusal first_refusal
+    → entered_if rows w owned field text ≡ posted_in_if w owned text (nth_field (marks w.attrs) field)
+unfolding entered_if refusal_if posted_in_if field_refusal_if first_refusal
 post-open o owned field text = rw (o.sized, o.good, o.unbarred, o.formatted)
 
 pub post-found : {rows : ℕ} {w : World} → PostOpen rows w → (owned : Bool) (field : ℕ) (text : List ℕ) {f : Found} {p : Posted}
-    → nth_field (marks w.attrs) field ≡ f → p ≡ posted_in w owned text f → p ≡ entered rows w owned field text
-post-found {rows} {w} o owned field text e q = q ∙ sym (post-open o owned field text ∙ ap (posted_in w owned text) e)
+    → nth_field (marks w.attrs) field ≡ f → p ≡ posted_in_if w owned text f → p ≡ entered_if rows w owned field text
+post-found {rows} {w} o owned field text e q = q ∙ sym (post-open o owned field text ∙ ap (posted_in_if w owned text) e)
 
 -- ---- a post that is not refused: all its tests passed, and this is what it leaves
 pub record PostReady (rows : ℕ) (w : World) (field : ℕ) (text : List ℕ) : Type 0 where
@@ -73,9 +73,9 @@ module _ (rows : ℕ) (w : World) (field : ℕ) (text : List ℕ) where
   leaves-done k n e = rw (n, e)
 
   -- by the field found
-  ready_at : rows ≤ 96 → PostOpen rows w → (f : Found) → nth_field (marks w.attrs) field ≡ f → field_refusal w true text f ≡ 0 → post_refusal rows w field text ≡ 0
+  ready_at : rows ≤ 96 → PostOpen rows w → (f : Found) → nth_field (marks w.attrs) field ≡ f → field_refusal_if w true text f ≡ 0 → post_refusal rows w field text ≡ 0
       → PostReady rows w field text
-  unfolding field_refusal first_refusal is_too_long misfits
+  unfolding field_refusal_if first_refusal is_too_long misfits
   ready_at few o (At k) e z n =
       let l = passed (ltb (field_end (marks w.attrs) k - k) (length text)) (λ n. omega arith) z in
       let a = passed (not (all_fit (kind_at (marks w.attrs) k) text)) (λ n. omega arith) l.1 in
@@ -94,7 +94,7 @@ module _ (rows : ℕ) (w : World) (field : ℕ) (text : List ℕ) where
   ready_at few o Nothing e z n = absurd (omega arith)
 
   pub post-ready : rows ≤ 96 → (posted_to rows w field text).number ≡ 0 → PostReady rows w field text
-  unfolding posted_to post_refusal first_refusal field_refusal
+  unfolding posted_to post_refusal first_refusal field_refusal_if
   post-ready few e =
       let s = passed (not (is_sized rows w.chars w.attrs)) (λ n. omega arith) e in
       let g = passed (not (is_good rows w.state)) (λ n. omega arith) s.1 in
@@ -186,13 +186,26 @@ module _ (rows : ℕ) (w : World) (owned : Bool) (field : ℕ) (text : List ℕ)
       sound-in few (not-false (is_sized rows w.chars w.attrs) s.0) (not-false (is_good rows w.state) g.0)
 
 pub entered-noted : (rows : ℕ) (t : Terminal) (chars₀ chars attrs : List ℕ) (owned : Bool) (field : ℕ) (text : List ℕ) {n : ℕ} {found joined : Changes} → rows ≤ 96
-    → numbered n t chars attrs ≡ entered rows (world t chars₀ attrs) owned field text → found ≡ set_of (differing_both rows chars₀ attrs chars attrs)
+    → numbered n t chars attrs ≡ entered_if rows (world t chars₀ attrs) owned field text → found ≡ set_of (differing_both rows chars₀ attrs chars attrs)
     → ((l m : List Bool) → t.changes ≡ set_of l → found ≡ set_of m → joined ≡ set_of (either l m))
     → ((k : ℕ) → found ≡ set_of (replicate k false) → joined ≡ t.changes)
     → numbered n (flagged t joined) chars attrs ≡ posted_if rows (world t chars₀ attrs) owned field text
-unfolding entered posted_if differing_rows
+unfolding entered_if posted_if differing_rows
 entered-noted rows t chars₀ chars attrs owned field text few e f j k =
     let w = world t chars₀ attrs in
     ap₂ (λ (m : ℕ) (v : World). record { number = m; world = v }) (ap (λ (p : Posted). p.number) e)
     (noted-if (eqb (refusal_if rows w owned field text) 0) w (posted_at w text (nth_field (marks attrs) field)) {u = world t chars attrs}
     (λ z. (if-sound rows w owned field text few (eqb-true (refusal_if rows w owned field text) 0 z)).good) (ap (λ (p : Posted). p.world) e) f j k)
+
+-- ---- by one who owns the field a post is the one that names no reader
+pub field_refusal-owned : (w : World) (text : List ℕ) (f : Found) → field_refusal_if w true text f ≡ field_refusal w text f
+unfolding field_refusal field_refusal_if first_refusal
+field_refusal-owned w text f = refl
+
+pub posted_in-owned : (w : World) (text : List ℕ) (f : Found) → posted_in_if w true text f ≡ posted_in w text f
+unfolding posted_in posted_in_if field_refusal field_refusal_if first_refusal
+posted_in-owned w text f = refl
+
+pub entered-owned : (rows : ℕ) (w : World) (field : ℕ) (text : List ℕ) → entered_if rows w true field text ≡ entered rows w field text
+unfolding entered entered_if refusal_if post_refusal first_refusal
+entered-owned rows w field text = refl

@@ -37,7 +37,23 @@ unfoldable pub misfits : List ℕ → List ℕ → Found → Bool
 misfits ms text (At start) = not (all_fit (kind_at ms start) text)
 misfits ms text Nothing = false
 
--- the tests of a post, in their order. Of whoever posts they ask two things: that all that is lent has its size, and that the field is his own
+-- posts test 1, 2, 4, 8, 9, 10, 6
+unfoldable pub post_refusal : ℕ → World → ℕ → List ℕ → ℕ
+post_refusal rows w field text =
+    let ms = marks w.attrs in
+    let found = nth_field ms field in
+    first_refusal
+    ((1 when not (is_sized rows w.chars w.attrs))
+    ∷ (2 when not (is_good rows w.state))
+    ∷ (4 when barred w.state)
+    ∷ (8 when not w.state.format)
+    ∷ (9 when is_nothing found)
+    ∷ (10 when is_too_long ms text found)
+    ∷ (6 when misfits ms text found)
+    ∷ [])
+
+-- the tests of a post by whoever sends it, in their order: they are those of `post_refusal`, with two things asked of the sender, that all that is lent has its size, and that the
+-- field is his own (13; crate `readers`)
 abbrev pub post_tests : ℕ → World → Bool → Bool → ℕ → List ℕ → List Refusal
 post_tests rows w sized owned field text =
     let ms = marks w.attrs in
@@ -52,18 +68,17 @@ post_tests rows w sized owned field text =
     ∷ (6 when misfits ms text found)
     ∷ []
 
--- posts test 1, 2, 4, 8, 9, 10, 6: a post that names no reader may write every unprotected field. A reader's posts have the same tests, and 13 among them (crate `readers`)
-unfoldable pub post_refusal : ℕ → World → ℕ → List ℕ → ℕ
-post_refusal rows w field text = first_refusal (post_tests rows w (is_sized rows w.chars w.attrs) true field text)
-
 -- in the field that starts there: the text, then blanks to the field's end; nothing else changes
 unfoldable pub posted_at : World → List ℕ → Found → World
 posted_at w text (At start) = world w.state (posted w.chars start (field_end (marks w.attrs) start) text) w.attrs
 posted_at w text Nothing = w
 
--- what a post leaves that answers n: done, the row that it changes is noted; a refusal leaves all
+-- the row that it changes is noted; a refusal leaves all
+unfoldable pub posted_to : ℕ → World → ℕ → List ℕ → Posted
+posted_to rows w field text =
+    let n = post_refusal rows w field text in
+    record { number = n; world = cond (eqb n 0) (noted rows w (posted_at w text (nth_field (marks w.attrs) field))) w }
+
+-- the same of a post that answers n
 abbrev pub posted_with : ℕ → ℕ → World → ℕ → List ℕ → Posted
 posted_with rows n w field text = record { number = n; world = cond (eqb n 0) (noted rows w (posted_at w text (nth_field (marks w.attrs) field))) w }
-
-unfoldable pub posted_to : ℕ → World → ℕ → List ℕ → Posted
-posted_to rows w field text = posted_with rows (post_refusal rows w field text) w field text

@@ -7,7 +7,7 @@ ghost use Rattle.changes.specs.Sets.{set_of};
 ghost use Rattle.changes.specs.Differing.{differing_both};
 ghost use Rattle.terminal.specs.State.{world, Sound};
 ghost use Rattle.post.specs.Posts.{fits, all_fit, post_left, posted_to};
-ghost use Rattle.post.specs.Field.{numbered, entered, posted_in, posted_if};
+ghost use Rattle.post.specs.Field.{numbered, entered_if, posted_in_if, posted_if};
 
 use cells::Found;
 use changes::Changes;
@@ -74,7 +74,7 @@ fn post_field(
 ) -> Entry
     requires fact_1 { Sound rows (world t chars.old attrs.now) }
     requires fact_2 { k < rows * 80 }
-    ensures attrs_after { numbered result.number t chars.new attrs.now ≡ posted_in (world t chars.old attrs.now) owned text.now (At k) }
+    ensures attrs_after { numbered result.number t chars.new attrs.now ≡ posted_in_if (world t chars.old attrs.now) owned text.now (At k) }
     ensures changes_value { result.changes ≡ set_of (differing_both rows chars.old attrs.now chars.new attrs.now) }
 {
     let end = fields::field_end(attrs, k);
@@ -112,7 +112,7 @@ fn post_to(
     text: &[u8],
 ) -> Entry
     requires { (24 ≤ rows) × (rows ≤ 96) }
-    ensures attrs_after { numbered result.number t chars.new attrs.now ≡ entered rows (world t chars.old attrs.now) owned field text.now }
+    ensures attrs_after { numbered result.number t chars.new attrs.now ≡ entered_if rows (world t chars.old attrs.now) owned field text.now }
     ensures changes_value { result.changes ≡ set_of (differing_both rows chars.old attrs.now chars.new attrs.now) }
 {
     if !terminal::is_sized(rows, chars, attrs) {

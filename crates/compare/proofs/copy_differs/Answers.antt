@@ -1,10 +1,8 @@
 -- `compare::copy_differs` meets its contract: the loop's invariant is `Seen`. Assumes nothing.
-use Prim.Native.Nat.{◌+◌, ◌-◌, ◌≤◌}
+use Prim.Native.Nat.{◌+◌, ◌-◌}
 use mathlib.Core.Path.{◌≡◌}
-use mathlib.Core.Logic.{⊎_elim}
 use native.Mathlib.Omega.{arith}
-use lib.ListN.{get_or}
-use Rattle.compare.proofs.Patches.{Seen, seen_none, seen_same, seen_other}
+use Rattle.compare.proofs.Patches.{seen_none, seen_same, seen_other}
 use Rattle.compare.proofs.copy_differs.Goals as goal
 use Rattle.compare.proofs.copy_differs.Goals.{else-s-a, then-s-a}
 

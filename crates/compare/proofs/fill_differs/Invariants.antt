@@ -1,10 +1,6 @@
 -- `compare::fill_differs` meets its contract: the loop's invariant is `Seen`. Assumes nothing.
 use Prim.Native.Nat.{◌-◌, ◌≤◌}
-use mathlib.Core.Path.{◌≡◌, refl}
-use mathlib.Core.Logic.{⊎_elim}
-use native.Mathlib.Omega.{arith}
-use Rattle.cells.specs.Memory.{filled}
-use Rattle.compare.proofs.Patches.{Seen, seen_none, seen_same, seen_other}
+use Rattle.compare.proofs.Patches.{Seen}
 use Rattle.compare.proofs.fill_differs.Given as goal
 
 abbrev pub invariant-loop-i : goal.invariant-loop-i

@@ -1,20 +1,16 @@
 -- `compare::open_differs` meets its contract: the loop's invariant is `Alike` of both memories, and `kind` with cell `i`'s mark gives its kind.
 -- Assumes nothing.
-use Prim.Native.Nat.{ℕ, ◌-◌, ◌≤◌}
+use Prim.Native.Nat.{ℕ}
 use mathlib.Core.Path.{◌≡◌, refl, sym, ◌∙◌}
-use mathlib.Core.Logic.{⊎_elim}
-use mathlib.Core.Bool.{cond}
-use mathlib.Core.List.{List}
 use native.Mathlib.Omega.{arith}
 use lib.ListN.{get_or}
-use borrow.Author.Rules.{rules}
 use borrow.Author.Tests.{not-true}
 use Rattle.cells.specs.Memory.{patch, filled}
 use Rattle.changes.specs.Differing.{differs}
 use Rattle.changes.proofs.Differing.{or-neither, or-first, or-last, or-second}
 use Rattle.fields.specs.Fields.{marks, stripped, unprotected}
-use Rattle.fields.proofs.Scans.{Onward, onward-start, onward-next, unprotected-by}
-use Rattle.compare.proofs.Patches.{kept, kept-where, altered, Alike, alike-none, alike-more}
+use Rattle.fields.proofs.Scans.{onward-start, onward-next, unprotected-by}
+use Rattle.compare.proofs.Patches.{kept, kept-where, altered, alike-none, alike-more}
 use Rattle.compare.proofs.open_differs.Invariants.{blanked, bared}
 use Rattle.compare.proofs.open_differs.Goals as goal
 use Rattle.compare.proofs.open_differs.Goals.{then-is_in+else-chars-i-ne32+else-attrs-i-ge16, else-is_in}
@@ -23,7 +19,7 @@ pub returns-then-not-rest_differs : goal.returns-then-not-rest_differs
 unfolding filled
 returns-then-not-rest_differs c =
     let a = c.args in
-    let o = or-neither _ _ (sym c.rest_differs.ensures ∙ not-true _ c.if-not-rest_differs.true-raw) in
+    let o = or-neither _ _ (sym c.rest_differs.ensures ∙ c.if-not-rest_differs.true) in
     or-second
     (sym (kept-where a.chars.now a.from a.to (λ (k : ℕ). 32) (unprotected (marks a.attrs.now)) (omega arith) o.0))
     (kept-where a.attrs.now a.from a.to (λ (k : ℕ). stripped (get_or a.attrs.now k 0)) (unprotected (marks a.attrs.now)) (omega arith) o.1)

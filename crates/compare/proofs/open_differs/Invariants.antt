@@ -1,20 +1,12 @@
 -- `compare::open_differs` meets its contract: the loop's invariant is `Alike` of both memories, and `kind` with cell `i`'s mark gives its kind.
 -- Assumes nothing.
 use Prim.Native.Nat.{ℕ, ◌-◌, ◌≤◌}
-use mathlib.Core.Path.{◌≡◌, refl, sym, ◌∙◌}
-use mathlib.Core.Logic.{⊎_elim}
 use mathlib.Core.Bool.{cond}
 use mathlib.Core.List.{List}
-use native.Mathlib.Omega.{arith}
 use lib.ListN.{get_or}
-use borrow.Author.Rules.{rules}
-use borrow.Author.Tests.{not-true}
-use Rattle.cells.specs.Memory.{patch, filled}
-use Rattle.changes.specs.Differing.{differs}
-use Rattle.changes.proofs.Differing.{or-neither, or-first, or-last, or-second}
 use Rattle.fields.specs.Fields.{marks, stripped, unprotected}
-use Rattle.fields.proofs.Scans.{Onward, onward-start, onward-next, unprotected-by}
-use Rattle.compare.proofs.Patches.{kept, kept-where, altered, Alike, alike-none, alike-more}
+use Rattle.fields.proofs.Scans.{Onward}
+use Rattle.compare.proofs.Patches.{Alike}
 use Rattle.compare.proofs.open_differs.Given as goal
 
 abbrev pub bared : List ℕ → ℕ → ℕ

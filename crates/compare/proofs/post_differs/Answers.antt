@@ -1,16 +1,14 @@
 -- `compare::post_differs` meets its contract: the loop's invariant is `Alike`, and the blanks are `fill_differs`'s. Assumes nothing.
 use Prim.Native.Nat.{ℕ, ◌+◌, ◌-◌, ◌≤◌, ◌<◌}
 use mathlib.Core.Path.{◌≡◌, sym, ap, ◌∙◌}
-use mathlib.Core.Bool.{cond}
 use mathlib.Core.List.{List}
 use native.Mathlib.Omega.{arith}
 use lib.ListN.{length, get_or}
-use lib.Dec.{ltb}
 use borrow.Author.Tests.{lt-ltb, le-ltb}
 use Rattle.cells.specs.Memory.{filled}
 use Rattle.cells.proofs.Splice.{posted-patch}
 use Rattle.changes.specs.Differing.{differs}
-use Rattle.compare.proofs.Patches.{altered, patch-as, patch-from, Alike, alike-none, alike-more}
+use Rattle.compare.proofs.Patches.{altered, patch-as, patch-from}
 use Rattle.compare.proofs.post_differs.Invariants.{text-then}
 use Rattle.compare.proofs.post_differs.Goals as goal
 

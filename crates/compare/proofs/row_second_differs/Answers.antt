@@ -2,7 +2,7 @@
 use Prim.Native.Nat.{◌-◌}
 use mathlib.Core.Path.{sym, ◌∙◌}
 use native.Mathlib.Omega.{arith}
-use Rattle.changes.proofs.Differing.{or-first, or-second}
+use Rattle.changes.proofs.Differing.{or-second}
 use Rattle.compare.proofs.Moves.{up-copy}
 use Rattle.compare.proofs.row_second_differs.Goals as goal
 

@@ -1,8 +1,8 @@
 -- `compare::shift_left_differs` meets its contract: the loop's invariant is `Alike`. Assumes nothing.
-use Prim.Native.Nat.{ℕ, ◌+◌, ◌-◌, ◌≤◌, ◌<◌}
-use mathlib.Core.Path.{◌≡◌, refl, sym, ap, ◌∙◌}
+use Prim.Native.Nat.{ℕ, ◌+◌, ◌-◌, ◌<◌}
+use mathlib.Core.Path.{◌≡◌, sym, ap, ◌∙◌}
 use mathlib.Core.Logic.{inl, inr}
-use mathlib.Core.Bool.{cond, not}
+use mathlib.Core.Bool.{not}
 use mathlib.Core.List.{List}
 use native.Mathlib.Omega.{arith}
 use lib.ListN.{get_or}
@@ -10,7 +10,7 @@ use lib.Dec.{eqb}
 use borrow.Author.Tests.{eq-eqb, ne_eqb, eqb-true, eqb-false}
 use Rattle.cells.specs.Memory.{shifted_left}
 use Rattle.changes.proofs.Differing.{true-or}
-use Rattle.compare.proofs.Patches.{kept, altered, Alike, alike-none, alike-more}
+use Rattle.compare.proofs.Patches.{kept, altered, alike-more}
 use Rattle.compare.proofs.shift_left_differs.Invariants.{moved}
 use Rattle.compare.proofs.shift_left_differs.Goals as goal
 

@@ -1,14 +1,10 @@
 -- `compare::shift_right_differs` meets its contract: the loop's invariant is `Alike`. Assumes nothing.
 use Prim.Native.Nat.{ℕ, ◌-◌, ◌≤◌, ◌<◌}
-use mathlib.Core.Path.{◌≡◌, refl, sym, ◌∙◌}
 use mathlib.Core.Bool.{cond}
 use mathlib.Core.List.{List}
-use native.Mathlib.Omega.{arith}
 use lib.ListN.{get_or}
 use lib.Dec.{eqb}
-use borrow.Author.Tests.{eq-eqb, ne_eqb}
-use Rattle.cells.specs.Memory.{shifted_right}
-use Rattle.compare.proofs.Patches.{kept, altered, Alike, alike-none, alike-more}
+use Rattle.compare.proofs.Patches.{Alike}
 use Rattle.compare.proofs.shift_right_differs.Given as goal
 
 abbrev pub moved : List ℕ → ℕ → ℕ → ℕ → ℕ

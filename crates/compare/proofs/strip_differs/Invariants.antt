@@ -1,11 +1,8 @@
 -- `compare::strip_differs` meets its contract: the loop's invariant is `Seen`. Assumes nothing.
 use Prim.Native.Nat.{◌-◌, ◌≤◌}
-use mathlib.Core.Path.{◌≡◌, refl}
-use mathlib.Core.Logic.{⊎_elim}
-use native.Mathlib.Omega.{arith}
 use lib.ListN.{get_or}
 use Rattle.fields.specs.Fields.{stripped}
-use Rattle.compare.proofs.Patches.{Seen, seen_none, seen_same, seen_other}
+use Rattle.compare.proofs.Patches.{Seen}
 use Rattle.compare.proofs.strip_differs.Given as goal
 
 abbrev pub invariant-loop-i : goal.invariant-loop-i

@@ -1,8 +1,6 @@
 -- `decisions::read` meets its contract: ESC by its test, an arm by its reading state, the last one by the states that it refutes. Assumes nothing.
-use Rattle.std.proofs.Common.{rules, tests}
 use Prim.Native.Nat.{◌%◌}
 use native.Mathlib.Omega.{arith}
-use borrow.Author.Rules.{rules}
 use borrow.Author.Tests.{eq-eqb, ne_eqb}
 use Rattle.decisions.specs.Decisions.{decided}
 use Rattle.decisions.proofs.read.Goals as goal

@@ -34,7 +34,7 @@ loop-k-preserved-then-top-k c =
     let a = c.args in
     let p = c.requires in
     elim c.loop-k-2-test.branch [
-      else-loop-k-2-test w ↦ (
+      | else-loop-k-2-test w ↦ (
         omega (arith, w.k-is),
         omega (arith, w.k-is),
         (
@@ -52,7 +52,7 @@ loop-k-preserved c =
     let a = c.args in
     let p = c.requires in
     elim c.loop-k-2-test.branch [
-      else-loop-k-2-test w ↦ absurd (omega (arith, w.k-is))
+      | else-loop-k-2-test w ↦ absurd (omega (arith, w.k-is))
       | then-loop-k-2-test+then-k-top w ↦ (
         omega (arith, w.k-is),
         omega (arith, w.k-is),

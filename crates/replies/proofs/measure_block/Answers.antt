@@ -3,7 +3,6 @@ use mathlib.Core.Path.{ap, sym, ◌∙◌}
 use native.Mathlib.Omega.{arith}
 use lib.ListN.{length}
 use Rattle.replies.proofs.Blocks.{row_in, row-length, block-fields, block_row}
-use borrow.Author.Rules.{rules}
 use Rattle.replies.proofs.measure_block.Goals as goal
 
 pub returns-then-format : goal.returns-then-format

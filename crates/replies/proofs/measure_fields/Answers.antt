@@ -1,12 +1,9 @@
 -- `replies::measure_fields` meets its contract: the bytes counted and those left from cell `i` on are together all of them. Assumes nothing.
-use Prim.Native.Nat.{◌+◌, ◌-◌, ◌*◌, ◌≤◌}
-use mathlib.Core.Path.{◌≡◌, ap, sym, ◌∙◌}
-use mathlib.Core.Logic.{⊎_elim}
+use mathlib.Core.Path.{ap, sym, ◌∙◌}
 use native.Mathlib.Omega.{arith}
-use borrow.Author.Rules.{rules}
 use lib.ListN.{length}
-use Rattle.replies.specs.Replies.{bit, fields_reply}
-use Rattle.replies.proofs.Blocks.{fields_left, left-all, left-none, left-size, left_other, field_in}
+use Rattle.replies.specs.Replies.{bit}
+use Rattle.replies.proofs.Blocks.{left-all, left-none, left-size, left_other, field_in}
 use Rattle.replies.proofs.measure_fields.Goals as goal
 use Rattle.replies.proofs.measure_fields.Goals.{else-some, then-some}
 

@@ -1,6 +1,5 @@
 -- `replies::report_cursor` meets its contract: each digit is the one that its call gives. Assumes nothing.
 use Rattle.replies.specs.Replies.{cursor_reply, digits}
-use borrow.Author.Rules.{rules}
 use Rattle.replies.proofs.report_cursor.Goals as goal
 
 pub returns : goal.returns

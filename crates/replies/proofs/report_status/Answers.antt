@@ -3,7 +3,6 @@ use Prim.Native.Nat.{◌≤◌}
 use mathlib.Core.Bool.{Bool, true, false}
 use native.Mathlib.Omega.{arith}
 use Rattle.replies.specs.Replies.{bit, status_reply}
-use borrow.Author.Rules.{rules}
 use Rattle.replies.proofs.report_status.Goals as goal
 
 bit-one : (b : Bool) → bit b ≤ 1

@@ -1,11 +1,9 @@
 -- `replies::row_through` meets its contract: the last non-blank lies in the row. Assumes nothing.
 use Prim.Native.Nat.{◌*◌}
 use mathlib.Core.Path.{ap, sym, ◌∙◌}
-use native.Mathlib.Numerals.{add-one}
 use native.Mathlib.Omega.{arith}
 use Rattle.replies.specs.Replies.{through}
 use Rattle.replies.proofs.Blocks.{row_in}
-use borrow.Author.Rules.{rules}
 use Rattle.replies.proofs.row_through.Goals as goal
 
 pub overflow_add-result : goal.overflow_add-result

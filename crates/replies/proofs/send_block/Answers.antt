@@ -3,7 +3,6 @@ use mathlib.Core.Path.{ap}
 use native.Mathlib.Omega.{arith}
 use lib.ListN.{length}
 use Rattle.replies.proofs.Blocks.{block-fields, block_row}
-use borrow.Author.Rules.{rules}
 use Rattle.replies.proofs.send_block.Goals as goal
 
 pub send_fields-requires-clause-fact_2 : goal.send_fields-requires-clause-fact_2

@@ -1,10 +1,8 @@
 -- `replies::send_field` meets its contract: the loop's invariant is `Copying`. Assumes nothing.
-use Prim.Native.Nat.{◌-◌}
 use mathlib.Core.Path.{sym, ◌∙◌}
 use native.Mathlib.Omega.{arith}
-use borrow.Author.Rules.{rules}
 use lib.ListN.{get_or, length-set}
-use Rattle.replies.proofs.Blocks.{Copying, copy-size, copy_begin, copy-room, copy-next, copy-end, copy-all}
+use Rattle.replies.proofs.Blocks.{copy-size, copy_begin, copy-room, copy-next, copy-end, copy-all}
 use Rattle.replies.proofs.send_field.Goals as goal
 
 pub bounds-reply-at : goal.bounds-reply-at

@@ -1,10 +1,6 @@
 -- `replies::send_field` meets its contract: the loop's invariant is `Copying`. Assumes nothing.
 use Prim.Native.Nat.{◌-◌}
-use mathlib.Core.Path.{sym, ◌∙◌}
-use native.Mathlib.Omega.{arith}
-use borrow.Author.Rules.{rules}
-use lib.ListN.{get_or, length-set}
-use Rattle.replies.proofs.Blocks.{Copying, copy-size, copy_begin, copy-room, copy-next, copy-end, copy-all}
+use Rattle.replies.proofs.Blocks.{Copying}
 use Rattle.replies.proofs.send_field.Given as goal
 
 abbrev pub invariant-loop-i : goal.invariant-loop-i

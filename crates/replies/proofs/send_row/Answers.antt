@@ -2,7 +2,6 @@
 use native.Mathlib.Omega.{arith}
 use Rattle.replies.proofs.Writing.{one_more, all-written, all-ends}
 use Rattle.replies.proofs.Blocks.{row_in, row-part, row-length, row-sent}
-use borrow.Author.Rules.{rules}
 use Rattle.replies.proofs.send_row.Goals as goal
 
 pub slice_bounds-write_at-count : goal.slice_bounds-write_at-count

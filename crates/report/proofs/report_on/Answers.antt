@@ -14,12 +14,12 @@ use Rattle.report.proofs.report_on.Goals as goal
 
 pub returns-then-not-is_good : goal.returns-then-not-is_good
 unfolding reported report_refusal first_refusal
-returns-then-not-is_good c = rw (sym c.is_good.ensures ∙ not-true _ c.if-not-is_good.true-raw)
+returns-then-not-is_good c = rw (sym c.is_good.ensures ∙ c.if-not-is_good.true)
 
 pub report-told-requires : goal.report-told-requires
 unfolding reported report_refusal first_refusal
-report-told-requires c = (c.requires.1, (good-in c.args.rows c.args.t (sym c.is_good.ensures ∙ not-false _ c.if-not-is_good.false-raw)).changes_in)
+report-told-requires c = (c.requires.1, (good-in c.args.rows c.args.t (sym c.is_good.ensures ∙ c.if-not-is_good.false)).changes_in)
 
 pub returns : goal.returns
 unfolding reported report_refusal first_refusal
-returns c = let left : Report → Changes → ReportAnswer = λ r n. record { number = 0; count = r.count; first = r.first; state = flagged c.args.t n } in rw (sym c.is_good.ensures ∙ not-false _ c.if-not-is_good.false-raw) (ap₂ left c.report-told.ensures (c.none-none.ensures c.args.rows))
+returns c = let left : Report → Changes → ReportAnswer = λ r n. record { number = 0; count = r.count; first = r.first; state = flagged c.args.t n } in rw (sym c.is_good.ensures ∙ c.if-not-is_good.false) (ap₂ left c.report-told.ensures (c.none-none.ensures c.args.rows))

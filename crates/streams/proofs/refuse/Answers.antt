@@ -8,12 +8,12 @@ use Rattle.streams.proofs.refuse.Goals as goal
 
 pub returns-then-not-is_sized : goal.returns-then-not-is_sized
 unfolding host_refusal first_refusal
-returns-then-not-is_sized c = rw (sym c.is_sized.ensures ∙ not-true _ c.if-not-is_sized.true-raw)
+returns-then-not-is_sized c = rw (sym c.is_sized.ensures ∙ c.if-not-is_sized.true)
 
 pub returns-then-not-is_good : goal.returns-then-not-is_good
 unfolding host_refusal first_refusal
-returns-then-not-is_good c = rw (sym c.is_sized.ensures ∙ not-false _ c.if-not-is_sized.false-raw, sym c.is_good.ensures ∙ not-true _ c.if-not-is_good.true-raw)
+returns-then-not-is_good c = rw (sym c.is_sized.ensures ∙ c.if-not-is_sized.false, sym c.is_good.ensures ∙ c.if-not-is_good.true)
 
 pub returns : goal.returns
 unfolding host_refusal first_refusal
-returns c = rw (sym c.is_sized.ensures ∙ not-false _ c.if-not-is_sized.false-raw, sym c.is_good.ensures ∙ not-false _ c.if-not-is_good.false-raw)
+returns c = rw (sym c.is_sized.ensures ∙ c.if-not-is_sized.false, sym c.is_good.ensures ∙ c.if-not-is_good.false)

@@ -2,7 +2,6 @@
 use Prim.Native.Nat.{◌%◌}
 use native.Mathlib.Omega.{arith}
 use Rattle.reading.specs.Reading.{action_of}
-use borrow.Author.Rules.{rules}
 use Rattle.table.proofs.action.Goals as goal
 
 pub returns : goal.returns

@@ -7,10 +7,10 @@ use Rattle.changes.proofs.Words.{none-words, one-low, one-high, shifted}
 use Rattle.changes.proofs.Changes.one.Goals as goal
 
 pub returns-then-not-on : goal.returns-then-not-on
-returns-then-not-on c = let a = c.args in λ n h. by-words _ (rw (not-true a.on c.if-not-on.true-raw, only_none n a.row) (none-words n))
+returns-then-not-on c = let a = c.args in λ n h. by-words _ (rw (c.if-not-on.true, only_none n a.row) (none-words n))
 
 pub returns-then-row-lt64 : goal.returns-then-row-lt64
-returns-then-row-lt64 c = let a = c.args in λ n h. by-words _ (rw (not-false a.on c.if-not-on.false-raw, shifted a.row c.if-row-lt64.true) (one-low n a.row h c.if-row-lt64.true))
+returns-then-row-lt64 c = let a = c.args in λ n h. by-words _ (rw (c.if-not-on.false, shifted a.row c.if-row-lt64.true) (one-low n a.row h c.if-row-lt64.true))
 
 pub returns : goal.returns
-returns c = let a = c.args in λ n h. by-words _ (rw (not-false a.on c.if-not-on.false-raw, shifted (a.row - 64) (omega arith)) (one-high n a.row h (omega arith)))
+returns c = let a = c.args in λ n h. by-words _ (rw (c.if-not-on.false, shifted (a.row - 64) (omega arith)) (one-high n a.row h (omega arith)))

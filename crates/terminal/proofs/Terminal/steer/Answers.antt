@@ -85,52 +85,52 @@ pub returns-in_default : goal.returns-in_default
 unfolding steered
 returns-in_default c =
     elim c.in_default.branch [
-      in_default-via-then-a-lt54 w ↦
-        rw (
-          ne_eqb c.args.a 9 (omega arith),
-          ne_eqb c.args.a 10 (omega arith),
-          ne_eqb c.args.a 11 (omega arith),
-          ne_eqb c.args.a 3 (omega arith),
-          ne_eqb c.args.a 6 (omega arith),
-          ne_eqb c.args.a 12 (omega arith),
-          ne_eqb c.args.a 13 (omega arith),
-          ne_eqb c.args.a 14 (omega arith),
-          ne_eqb c.args.a 4 (omega arith),
-          ne_eqb c.args.a 15 (omega arith),
-          ne_eqb c.args.a 23 (omega arith),
-          ne_eqb c.args.a 24 (omega arith),
-          ne_eqb c.args.a 25 (omega arith),
-          ne_eqb c.args.a 26 (omega arith),
-          ne_eqb c.args.a 54 (omega arith),
-          ne_eqb c.args.a 55 (omega arith),
-          ne_eqb c.args.a 56 (omega arith),
-          ne_eqb c.args.a 57 (omega arith),
-          ne_eqb c.args.a 58 (omega arith),
-          ne_eqb c.args.a 59 (omega arith),
-        )
-        c.switch.ensures
+      | in_default-via-then-a-lt54 w ↦
+          rw (
+            ne_eqb c.args.a 9 (omega arith),
+            ne_eqb c.args.a 10 (omega arith),
+            ne_eqb c.args.a 11 (omega arith),
+            ne_eqb c.args.a 3 (omega arith),
+            ne_eqb c.args.a 6 (omega arith),
+            ne_eqb c.args.a 12 (omega arith),
+            ne_eqb c.args.a 13 (omega arith),
+            ne_eqb c.args.a 14 (omega arith),
+            ne_eqb c.args.a 4 (omega arith),
+            ne_eqb c.args.a 15 (omega arith),
+            ne_eqb c.args.a 23 (omega arith),
+            ne_eqb c.args.a 24 (omega arith),
+            ne_eqb c.args.a 25 (omega arith),
+            ne_eqb c.args.a 26 (omega arith),
+            ne_eqb c.args.a 54 (omega arith),
+            ne_eqb c.args.a 55 (omega arith),
+            ne_eqb c.args.a 56 (omega arith),
+            ne_eqb c.args.a 57 (omega arith),
+            ne_eqb c.args.a 58 (omega arith),
+            ne_eqb c.args.a 59 (omega arith),
+          )
+          c.switch.ensures
       | in_default-via-else-a-lt54+else-a-lt56+else-a-lt58+else-a-lt60 w ↦
-        rw (
-          ne_eqb c.args.a 9 (omega arith),
-          ne_eqb c.args.a 10 (omega arith),
-          ne_eqb c.args.a 11 (omega arith),
-          ne_eqb c.args.a 3 (omega arith),
-          ne_eqb c.args.a 6 (omega arith),
-          ne_eqb c.args.a 12 (omega arith),
-          ne_eqb c.args.a 13 (omega arith),
-          ne_eqb c.args.a 14 (omega arith),
-          ne_eqb c.args.a 4 (omega arith),
-          ne_eqb c.args.a 15 (omega arith),
-          ne_eqb c.args.a 23 (omega arith),
-          ne_eqb c.args.a 24 (omega arith),
-          ne_eqb c.args.a 25 (omega arith),
-          ne_eqb c.args.a 26 (omega arith),
-          ne_eqb c.args.a 54 (omega arith),
-          ne_eqb c.args.a 55 (omega arith),
-          ne_eqb c.args.a 56 (omega arith),
-          ne_eqb c.args.a 57 (omega arith),
-          ne_eqb c.args.a 58 (omega arith),
-          ne_eqb c.args.a 59 (omega arith),
-        )
-        c.switch.ensures
+          rw (
+            ne_eqb c.args.a 9 (omega arith),
+            ne_eqb c.args.a 10 (omega arith),
+            ne_eqb c.args.a 11 (omega arith),
+            ne_eqb c.args.a 3 (omega arith),
+            ne_eqb c.args.a 6 (omega arith),
+            ne_eqb c.args.a 12 (omega arith),
+            ne_eqb c.args.a 13 (omega arith),
+            ne_eqb c.args.a 14 (omega arith),
+            ne_eqb c.args.a 4 (omega arith),
+            ne_eqb c.args.a 15 (omega arith),
+            ne_eqb c.args.a 23 (omega arith),
+            ne_eqb c.args.a 24 (omega arith),
+            ne_eqb c.args.a 25 (omega arith),
+            ne_eqb c.args.a 26 (omega arith),
+            ne_eqb c.args.a 54 (omega arith),
+            ne_eqb c.args.a 55 (omega arith),
+            ne_eqb c.args.a 56 (omega arith),
+            ne_eqb c.args.a 57 (omega arith),
+            ne_eqb c.args.a 58 (omega arith),
+            ne_eqb c.args.a 59 (omega arith),
+          )
+          c.switch.ensures
     ]

@@ -1,0 +1,25 @@
+-- `key::refuse_text` meets its contract: the target, where there is one, is a cell of the memory. Assumes nothing.
+use mathlib.Core.Path.{sym, ◌∙◌}
+use native.Mathlib.Omega.{arith}
+use Rattle.screen.proofs.Target.{target-inside}
+use Rattle.terminal.specs.Refusals.{first_refusal}
+use Rattle.key.specs.Keys.{disallows}
+use Rattle.key.specs.Aim.{aim_refusal}
+use borrow.Author.Rules.{rules}
+use Rattle.key.proofs.refuse_text.Goals as goal
+
+pub kind_at-kind-requires : goal.kind_at-kind-requires
+unfolding aim_refusal first_refusal disallows
+kind_at-kind-requires c = target-inside _ _ _ (omega arith) (sym c.find_target-to.ensures ∙ c.in-At.is)
+
+pub returns-then-allows : goal.returns-then-allows
+unfolding aim_refusal first_refusal disallows
+returns-then-allows c = rw (← c.find_target-to.ensures, c.in-At.is, ← c.kind_at-kind.ensures, ← c.allows.ensures, c.if-allows.true)
+
+pub returns-else-allows : goal.returns-else-allows
+unfolding aim_refusal first_refusal disallows
+returns-else-allows c = rw (← c.find_target-to.ensures, c.in-At.is, ← c.kind_at-kind.ensures, ← c.allows.ensures, c.if-allows.false)
+
+pub returns-in-Nothing : goal.returns-in-Nothing
+unfolding aim_refusal first_refusal disallows
+returns-in-Nothing c = rw (← c.find_target-to.ensures, c.in-Nothing.is)
