@@ -25,11 +25,11 @@ part_sound {rows} {w} s r at reply =
 
 from-sound : {rows : ℕ} {w : World} → Sound rows w → (r : List ℕ) (calls at sum : ℕ) → Sound rows (ran_from rows calls w r at sum).world
 unfolding ran_from
-from-sound s r zero at sum = s
-from-sound {rows} {w} s r (suc calls) at sum =
+from-sound {rows = rows} {w = w} s r zero at sum = s
+from-sound {rows = rows} {w = w} s r (suc calls) at sum =
     let p = record_part rows w r at (emptied rows) in
     let v = part_sound s r at (emptied rows) in
-    either (λ (x : Ran). Sound rows x.world) (eqb p.number 7) (from-sound v r calls p.at (sum + p.written)) v
+    either (λ (x : Ran). Sound rows x.world) (eqb p.number 7) (from-sound {w = p.world} v r calls p.at (sum + p.written)) v
 
 pub record-sound : {rows : ℕ} {w : World} → Sound rows w → (r : List ℕ) → Sound rows (record_ran rows w r).world
 unfolding record_ran
