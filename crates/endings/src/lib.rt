@@ -32,7 +32,7 @@ impl Way {
 // A file that cannot be read to its end has no end line, no picture and no state. The line of replies to a host stream ends.
 pub fn break_off(out: Output, page: &mut Page, way: Way, name: &[u8], error: &Error) -> Output {
     let out = printing::either(out, page, way.is_host && way.is_raw, b"\n", b"");
-    inputs::tell(out, page, name, error)
+    tell(out, page, name, error)
 }
 
 // The picture, or the lines for scripts; before them that the input ends inside a record, of which `rest` bytes are there. Behind the rows that the records change
@@ -102,4 +102,9 @@ fn tell_rest(stderr: Stderr, number: u64, rest: usize, name: &[u8]) {
     let _ = eprintln!(stderr;
         ": 12: the input ends inside record {number}, after {rest} of 84 bytes"
     );
+}
+
+// Tells on standard error why a file cannot be read, behind what was printed before it.
+pub fn tell(out: Output, page: &Page, name: &[u8], error: &Error) -> Output {
+    inputs::tell(out, page, name, error)
 }

@@ -65,7 +65,7 @@ fn run_file(rt: &(impl Env + Files), out: Output, page: &mut Page, a: Asked, i: 
     let mut name = [0u8; 4096];
     match inputs::name(rt, i, &mut name) {
         Ok(n) => open(rt, out, page, a, &name[..n]),
-        Err(error) => inputs::tell(out, page, b"a name of more than 4096 bytes", &error),
+        Err(error) => endings::tell(out, page, b"a name of more than 4096 bytes", &error),
     }
 }
 
@@ -75,6 +75,6 @@ fn open(rt: &impl Files, out: Output, page: &mut Page, a: Asked, name: &[u8]) ->
             let out = inputs::print_name(out, page, a.files, name);
             files::run(out, page, a.way, &mut file, name)
         }
-        Err(error) => inputs::tell(out, page, name, &error),
+        Err(error) => endings::tell(out, page, name, &error),
     }
 }
