@@ -12,7 +12,7 @@ use Rattle.readers.specs.Owners.{is_table, owns, post_as_refusal, posted_as, tex
 use Rattle.mixing.specs.Event.{run, answers, filtered, Throughout}
 use Rattle.mixing.specs.Mix.{done, a_key, a_post, here, later}
 use Rattle.promises.specs.Form.{form, shown, numbers, struck}
-use Rattle.promises.specs.Calls.{Call, host, key, post_as, called, Told, by_host, by_key, by_post, by_report, by_reading, told}
+use Rattle.promises.specs.Calls.{Call, host, key, post_as, called, Told, by_host, by_key, by_post, by_report, by_reading}
 use Rattle.promises.specs.Protected.{OnIn}
 use Rattle.promises.specs.Owners.{common, heard_of, NoHomeDown, Under, Calm, TakenWhole, not_host, handled_under, answered_under}
 use Rattle.promises.specs.Shared.{owners, reads, busy, quiet, busy_end, quiet_end, both_hear, SharedBy, ReadersCovered, in_two, in_one, CutsCovered, with_post, transfer, block, RepliesTell, Disturbed, DownAsked, then_typed, typed_as, HomeDownDisturbs, OffAsked, row_gone, read_as, FormatOffDisturbs, TableAsked, TableDisturbs, tags, key_first, tags_first, TagsCovered}

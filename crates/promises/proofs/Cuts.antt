@@ -118,8 +118,8 @@ module _ (rows : ℕ) (few : rows ≤ 96) where
   -- ---- calls that go on
   go_on : {w : World} → Sound rows w → (bytes reply : List ℕ) (others : List (List ℕ)) → (gone_on rows w bytes reply others).number ≡ 0 → gone_on rows w bytes reply others ≡ sent_whole bytes w
   unfolding gone_on
-  go_on s bytes reply [] = sent-whole s bytes reply
-  go_on {w} s bytes reply (other ∷ others) =
+  go_on {w = w} s bytes reply [] = sent-whole s bytes reply
+  go_on {w = w} s bytes reply (other ∷ others) =
       let f = fed rows w bytes reply in
       let xs = take f.taken bytes in
       let ys = drop f.taken bytes in
@@ -128,7 +128,7 @@ module _ (rows : ℕ) (few : rows ≤ 96) where
       let k = host_refusals rows w bytes reply in
       let t : Taken rows bytes w reply f = rw (fed-on s bytes reply) (fed_on-is rows bytes w reply) in
       let sent : take f.written f.reply ≡ answers_to rows xs w = rw (t.reply-is, t.written_is) (first-written reply (answers_to rows xs w)) in
-      ap (joined f) (go_on (fed-sound s bytes reply) ys other others z)
+      ap (joined f) (go_on {w = f.world} (fed-sound s bytes reply) ys other others z)
       ∙ two-whole xs ys w f (sym (length-take-le f.taken bytes k.taken_in)) t.written_is t.world_is sent
       ∙ ap (λ (l : List ℕ). sent_whole l w) (take-append-drop f.taken bytes))
       (λ _ z. sent-whole s bytes reply z)

@@ -2,7 +2,6 @@
 -- on 48. Assumes nothing.
 use Rattle.std.specs.Prelude.{ℕ, ◌≡◌, true, List, [], ◌∷◌, ◌++◌, replicate}
 use Rattle.terminal.specs.State.{World}
-use Rattle.mixing.specs.Event as Event
 use Rattle.mixing.specs.Event.{Event, run, answers, filtered, Throughout}
 use Rattle.mixing.specs.Mix.{Post, Mixed, Apart, Agree}
 use Rattle.promises.specs.Calls.{Call, host, key, post, report, post_as, read_back, called, Told, by_host, by_key, by_post, by_reading, told}
