@@ -15,8 +15,7 @@ use Rattle.key.specs.Keys.{keyed}
 use Rattle.post.specs.Posts.{posted_to}
 use Rattle.readers.specs.Owners.{posted_as, read_back_of}
 use Rattle.mixing.specs.Event.{run, answers, Throughout}
-use Rattle.promises.specs.Calls.{Call, host, key, post, report, post_as, read_back, called, Told, by_host, by_key, by_post, by_reading, told}
-use Rattle.promises.specs.Protected.{OnIn}
+use Rattle.promises.specs.SharedCalls.{SharedCall, host, key, post, report, post_as, read_back, shared_called, SharedTold, by_host, by_key, by_post, by_reading, shared_told, SharedOnIn}
 use Rattle.promises.specs.Owners.{seen, heard_of, heard, NoneDown, NoHomeDown, Under}
 
 -- ---- host bytes: format mode is on before each and after the last, and none asks for home down
@@ -61,7 +60,7 @@ bytes_same (x ∷ xs) (y ∷ ys) t =
     ap₂ (λ (n : ℕ) (l : List ℕ). n ∷ l) (eqb-true x y a.0) (bytes_same xs ys a.1)
 
 -- ---- one call
-unfoldable is_on : ℕ → Call → World → Bool
+unfoldable is_on : ℕ → SharedCall → World → Bool
 is_on rows (host bytes reply) w = (held rows (take (fed rows w bytes reply).taken bytes) w).on
 is_on rows (key code reply) w = w.state.format
 is_on rows (post field text) w = w.state.format
@@ -69,7 +68,7 @@ is_on rows report w = w.state.format
 is_on rows (post_as table reader field text) w = w.state.format
 is_on rows (read_back table reader field out) w = w.state.format
 
-unfoldable is_free : ℕ → Call → World → Bool
+unfoldable is_free : ℕ → SharedCall → World → Bool
 is_free rows (host bytes reply) w = (held rows (take (fed rows w bytes reply).taken bytes) w).free
 is_free rows (key code reply) w = not (eqb code 261)
 is_free rows (post field text) w = true
@@ -77,7 +76,7 @@ is_free rows report w = true
 is_free rows (post_as table reader field text) w = true
 is_free rows (read_back table reader field out) w = true
 
-unfoldable is_under : List ℕ → Call → Bool
+unfoldable is_under : List ℕ → SharedCall → Bool
 is_under owners (host bytes reply) = true
 is_under owners (key code reply) = true
 is_under owners (post field text) = true
@@ -85,7 +84,7 @@ is_under owners report = true
 is_under owners (post_as table reader field text) = same_bytes table owners
 is_under owners (read_back table reader field out) = same_bytes table owners
 
-call-on : (rows : ℕ) (c : Call) (w : World) → is_on rows c w ≡ true → OnIn rows c w
+call-on : (rows : ℕ) (c : SharedCall) (w : World) → is_on rows c w ≡ true → SharedOnIn rows c w
 unfolding is_on
 call-on rows (host bytes reply) w t = bytes_on rows (take (fed rows w bytes reply).taken bytes) w t
 call-on rows (key code reply) w t = t
@@ -94,7 +93,7 @@ call-on rows report w t = t
 call-on rows (post_as table reader field text) w t = t
 call-on rows (read_back table reader field out) w t = t
 
-call-free : (rows : ℕ) (c : Call) (w : World) → is_free rows c w ≡ true → NoHomeDown rows c w
+call-free : (rows : ℕ) (c : SharedCall) (w : World) → is_free rows c w ≡ true → NoHomeDown rows c w
 unfolding is_free
 call-free rows (host bytes reply) w t = bytes-free rows (take (fed rows w bytes reply).taken bytes) w t
 call-free rows (key code reply) w t = eqb-false code 261 (not-true _ t)
@@ -103,7 +102,7 @@ call-free rows report w t = tt
 call-free rows (post_as table reader field text) w t = tt
 call-free rows (read_back table reader field out) w t = tt
 
-call-under : (owners : List ℕ) (c : Call) → is_under owners c ≡ true → Under owners c
+call-under : (owners : List ℕ) (c : SharedCall) → is_under owners c ≡ true → Under owners c
 unfolding is_under
 call-under owners (host bytes reply) t = tt
 call-under owners (key code reply) t = tt
@@ -117,15 +116,15 @@ pub record Outcome : Type 0 where
   pub on : Bool
   pub free : Bool
   pub under : Bool
-  pub told : List Told
+  pub told : List SharedTold
   pub end : World
 
 -- one call before the others: its three tests, whether it is seen, and what it is told
-abbrev before : Bool → Bool → Bool → Bool → Told → Outcome → Outcome
+abbrev before : Bool → Bool → Bool → Bool → SharedTold → Outcome → Outcome
 before on free under isSeen t o =
     record { on = on && o.on; free = free && o.free; under = under && o.under; told = cond isSeen (t ∷ o.told) o.told; end = o.end }
 
-unfoldable pub outcome : ℕ → List ℕ → List Call → World → Outcome
+unfoldable pub outcome : ℕ → List ℕ → List SharedCall → World → Outcome
 outcome rows owners [] w = record { on = true; free = true; under = true; told = []; end = w }
 outcome rows owners (host bytes reply ∷ calls) w =
     let h = fed rows w bytes reply in
@@ -137,7 +136,7 @@ outcome rows owners (key code reply ∷ calls) w =
 outcome rows owners (post field text ∷ calls) w =
     let p = posted_to rows w field text in
     before w.state.format true true true (by_post p.number) (outcome rows owners calls p.world)
-outcome rows owners (report ∷ calls) w = before w.state.format true true false (by_post 0) (outcome rows owners calls (called rows report w))
+outcome rows owners (report ∷ calls) w = before w.state.format true true false (by_post 0) (outcome rows owners calls (shared_called rows report w))
 outcome rows owners (post_as table reader field text ∷ calls) w =
     let p = posted_as rows w table reader field text in
     before w.state.format true (same_bytes table owners) (not (eqb reader 2)) (by_post p.number) (outcome rows owners calls p.world)
@@ -147,47 +146,47 @@ outcome rows owners (read_back table reader field out ∷ calls) w =
 
 module _ (rows : ℕ) (owners : List ℕ) where
   -- what is told, and the end
-  pub outcome-told : (calls : List Call) (w : World) → answers (called rows) (told rows) (seen 2) calls w ≡ (outcome rows owners calls w).told
+  pub outcome-told : (calls : List SharedCall) (w : World) → answers (shared_called rows) (shared_told rows) (seen 2) calls w ≡ (outcome rows owners calls w).told
   unfolding outcome
   outcome-told [] w = refl
-  outcome-told (host bytes reply ∷ calls) w = ap (λ (l : List Told). told rows (host bytes reply) w ∷ l) (outcome-told calls (called rows (host bytes reply) w))
-  outcome-told (key code reply ∷ calls) w = ap (λ (l : List Told). told rows (key code reply) w ∷ l) (outcome-told calls (called rows (key code reply) w))
-  outcome-told (post field text ∷ calls) w = ap (λ (l : List Told). told rows (post field text) w ∷ l) (outcome-told calls (called rows (post field text) w))
-  outcome-told (report ∷ calls) w = outcome-told calls (called rows report w)
+  outcome-told (host bytes reply ∷ calls) w = ap (λ (l : List SharedTold). shared_told rows (host bytes reply) w ∷ l) (outcome-told calls (shared_called rows (host bytes reply) w))
+  outcome-told (key code reply ∷ calls) w = ap (λ (l : List SharedTold). shared_told rows (key code reply) w ∷ l) (outcome-told calls (shared_called rows (key code reply) w))
+  outcome-told (post field text ∷ calls) w = ap (λ (l : List SharedTold). shared_told rows (post field text) w ∷ l) (outcome-told calls (shared_called rows (post field text) w))
+  outcome-told (report ∷ calls) w = outcome-told calls (shared_called rows report w)
   outcome-told (post_as table reader field text ∷ calls) w =
-      ap (λ (l : List Told). cond (not (eqb reader 2)) (told rows (post_as table reader field text) w ∷ l) l) (outcome-told calls (called rows (post_as table reader field text) w))
+      ap (λ (l : List SharedTold). cond (not (eqb reader 2)) (shared_told rows (post_as table reader field text) w ∷ l) l) (outcome-told calls (shared_called rows (post_as table reader field text) w))
   outcome-told (read_back table reader field out ∷ calls) w =
-      ap (λ (l : List Told). cond (not (eqb reader 2)) (told rows (read_back table reader field out) w ∷ l) l) (outcome-told calls w)
+      ap (λ (l : List SharedTold). cond (not (eqb reader 2)) (shared_told rows (read_back table reader field out) w ∷ l) l) (outcome-told calls w)
 
   -- what is heard is so of each
-  heard-map : (calls : List Call) (w : World) → answers (called rows) (heard rows) (seen 2) calls w ≡ map heard_of (answers (called rows) (told rows) (seen 2) calls w)
+  heard-map : (calls : List SharedCall) (w : World) → answers (shared_called rows) (heard rows) (seen 2) calls w ≡ map heard_of (answers (shared_called rows) (shared_told rows) (seen 2) calls w)
   heard-map [] w = refl
-  heard-map (c ∷ calls) w = go (seen 2 c) (answers (called rows) (told rows) (seen 2) calls (called rows c w)) (heard-map calls (called rows c w))
+  heard-map (c ∷ calls) w = go (seen 2 c) (answers (shared_called rows) (shared_told rows) (seen 2) calls (shared_called rows c w)) (heard-map calls (shared_called rows c w))
     where
-      go : (b : Bool) (m : List Told) {l : List Told} → l ≡ map heard_of m → cond b (heard rows c w ∷ l) l ≡ map heard_of (cond b (told rows c w ∷ m) m)
-      go true m e = ap (λ (l : List Told). heard rows c w ∷ l) e
+      go : (b : Bool) (m : List SharedTold) {l : List SharedTold} → l ≡ map heard_of m → cond b (heard rows c w ∷ l) l ≡ map heard_of (cond b (shared_told rows c w ∷ m) m)
+      go true m e = ap (λ (l : List SharedTold). heard rows c w ∷ l) e
       go false m e = e
 
-  pub outcome-heard : (calls : List Call) (w : World) → answers (called rows) (heard rows) (seen 2) calls w ≡ map heard_of (outcome rows owners calls w).told
+  pub outcome-heard : (calls : List SharedCall) (w : World) → answers (shared_called rows) (heard rows) (seen 2) calls w ≡ map heard_of (outcome rows owners calls w).told
   outcome-heard calls w = heard-map calls w ∙ ap (map heard_of) (outcome-told calls w)
 
-  pub outcome-end : (calls : List Call) (w : World) → run (called rows) calls w ≡ (outcome rows owners calls w).end
+  pub outcome-end : (calls : List SharedCall) (w : World) → run (shared_called rows) calls w ≡ (outcome rows owners calls w).end
   unfolding outcome
   outcome-end [] w = refl
-  outcome-end (host bytes reply ∷ calls) w = outcome-end calls (called rows (host bytes reply) w)
-  outcome-end (key code reply ∷ calls) w = outcome-end calls (called rows (key code reply) w)
-  outcome-end (post field text ∷ calls) w = outcome-end calls (called rows (post field text) w)
-  outcome-end (report ∷ calls) w = outcome-end calls (called rows report w)
-  outcome-end (post_as table reader field text ∷ calls) w = outcome-end calls (called rows (post_as table reader field text) w)
+  outcome-end (host bytes reply ∷ calls) w = outcome-end calls (shared_called rows (host bytes reply) w)
+  outcome-end (key code reply ∷ calls) w = outcome-end calls (shared_called rows (key code reply) w)
+  outcome-end (post field text ∷ calls) w = outcome-end calls (shared_called rows (post field text) w)
+  outcome-end (report ∷ calls) w = outcome-end calls (shared_called rows report w)
+  outcome-end (post_as table reader field text ∷ calls) w = outcome-end calls (shared_called rows (post_as table reader field text) w)
   outcome-end (read_back table reader field out ∷ calls) w = outcome-end calls w
 
   -- the three tests
-  record First (c : Call) (calls : List Call) (w : World) : Type 0 where
-    on-first : (outcome rows owners (c ∷ calls) w).on ≡ is_on rows c w && (outcome rows owners calls (called rows c w)).on
-    free-first : (outcome rows owners (c ∷ calls) w).free ≡ is_free rows c w && (outcome rows owners calls (called rows c w)).free
-    under_first : (outcome rows owners (c ∷ calls) w).under ≡ is_under owners c && (outcome rows owners calls (called rows c w)).under
+  record First (c : SharedCall) (calls : List SharedCall) (w : World) : Type 0 where
+    on-first : (outcome rows owners (c ∷ calls) w).on ≡ is_on rows c w && (outcome rows owners calls (shared_called rows c w)).on
+    free-first : (outcome rows owners (c ∷ calls) w).free ≡ is_free rows c w && (outcome rows owners calls (shared_called rows c w)).free
+    under_first : (outcome rows owners (c ∷ calls) w).under ≡ is_under owners c && (outcome rows owners calls (shared_called rows c w)).under
 
-  first : (c : Call) (calls : List Call) (w : World) → First c calls w
+  first : (c : SharedCall) (calls : List SharedCall) (w : World) → First c calls w
   unfolding outcome is_on is_free is_under
   first (host bytes reply) calls w = record { on-first = refl; free-first = refl; under_first = refl }
   first (key code reply) calls w = record { on-first = refl; free-first = refl; under_first = refl }
@@ -196,20 +195,20 @@ module _ (rows : ℕ) (owners : List ℕ) where
   first (post_as table reader field text) calls w = record { on-first = refl; free-first = refl; under_first = refl }
   first (read_back table reader field out) calls w = record { on-first = refl; free-first = refl; under_first = refl }
 
-  pub all-on : (calls : List Call) (w : World) → (outcome rows owners calls w).on ≡ true → Throughout (called rows) (OnIn rows) calls w
+  pub all-on : (calls : List SharedCall) (w : World) → (outcome rows owners calls w).on ≡ true → Throughout (shared_called rows) (SharedOnIn rows) calls w
   all-on [] w t = tt
   all-on (c ∷ calls) w t =
-      let a = (and-eq-true_iff (is_on rows c w) (outcome rows owners calls (called rows c w)).on).0 (sym (first c calls w).on-first ∙ t) in
-      (call-on rows c w a.0, all-on calls (called rows c w) a.1)
+      let a = (and-eq-true_iff (is_on rows c w) (outcome rows owners calls (shared_called rows c w)).on).0 (sym (first c calls w).on-first ∙ t) in
+      (call-on rows c w a.0, all-on calls (shared_called rows c w) a.1)
 
-  pub all-free : (calls : List Call) (w : World) → (outcome rows owners calls w).free ≡ true → Throughout (called rows) (NoHomeDown rows) calls w
+  pub all-free : (calls : List SharedCall) (w : World) → (outcome rows owners calls w).free ≡ true → Throughout (shared_called rows) (NoHomeDown rows) calls w
   all-free [] w t = tt
   all-free (c ∷ calls) w t =
-      let a = (and-eq-true_iff (is_free rows c w) (outcome rows owners calls (called rows c w)).free).0 (sym (first c calls w).free-first ∙ t) in
-      (call-free rows c w a.0, all-free calls (called rows c w) a.1)
+      let a = (and-eq-true_iff (is_free rows c w) (outcome rows owners calls (shared_called rows c w)).free).0 (sym (first c calls w).free-first ∙ t) in
+      (call-free rows c w a.0, all-free calls (shared_called rows c w) a.1)
 
-  pub all_under : (calls : List Call) (w : World) → (outcome rows owners calls w).under ≡ true → Throughout (called rows) (λ c v. Under owners c) calls w
+  pub all_under : (calls : List SharedCall) (w : World) → (outcome rows owners calls w).under ≡ true → Throughout (shared_called rows) (λ c v. Under owners c) calls w
   all_under [] w t = tt
   all_under (c ∷ calls) w t =
-      let a = (and-eq-true_iff (is_under owners c) (outcome rows owners calls (called rows c w)).under).0 (sym (first c calls w).under_first ∙ t) in
-      (call-under owners c a.0, all_under calls (called rows c w) a.1)
+      let a = (and-eq-true_iff (is_under owners c) (outcome rows owners calls (shared_called rows c w)).under).0 (sym (first c calls w).under_first ∙ t) in
+      (call-under owners c a.0, all_under calls (shared_called rows c w) a.1)

@@ -12,13 +12,12 @@ use Rattle.readers.specs.Owners.{is_table, owns, post_as_refusal, posted_as, tex
 use Rattle.mixing.specs.Event.{run, answers, filtered, Throughout}
 use Rattle.mixing.specs.Mix.{done, a_key, a_post, here, later}
 use Rattle.promises.specs.Form.{form, shown, numbers, struck}
-use Rattle.promises.specs.Calls.{Call, host, key, post_as, called, Told, by_host, by_key, by_post, by_report, by_reading}
-use Rattle.promises.specs.Protected.{OnIn}
+use Rattle.promises.specs.SharedCalls.{SharedCall, host, key, post_as, shared_called, SharedTold, by_host, by_key, by_post, by_report, by_reading, SharedOnIn}
 use Rattle.promises.specs.Owners.{common, heard_of, NoHomeDown, Under, Calm, TakenWhole, not_host, handled_under, answered_under}
 use Rattle.promises.specs.Shared.{owners, reads, busy, quiet, busy_end, quiet_end, both_hear, SharedBy, ReadersCovered, in_two, in_one, CutsCovered, with_post, transfer, block, RepliesTell, Disturbed, DownAsked, then_typed, typed_as, HomeDownDisturbs, OffAsked, row_gone, read_as, FormatOffDisturbs, TableAsked, TableDisturbs, tags, key_first, tags_first, TagsCovered}
 use Rattle.promises.proofs.Owned.{reader_mixes_agree}
 use Rattle.promises.proofs.Undisturbed.{readers_undisturbed}
-use Rattle.kept.proofs.Sparing.{every, spares, keep_apart, apart_by}
+use Rattle.kept.proofs.Sparing.{every, spares, keep_apart, apart_by_step}
 use Rattle.kept.proofs.Outcome.{held, same_bytes, Outcome, outcome, outcome-told, outcome-heard, outcome-end, all-on, all-free, all_under}
 use Rattle.kept.proofs.Witness.{machine, form-sound, differ-by}
 
@@ -28,49 +27,49 @@ unfolding machine is_table owns post_as_refusal posted_as text_in_field read_ref
 readers = 0
 
 -- ---- what is asked of each call
-each_both : (rows : ℕ) (P Q R : Call → World → Type 0) → ((c : Call) (w : World) → P c w → Q c w → R c w) → (es : List Call) (w : World)
-    → Throughout (called rows) P es w → Throughout (called rows) Q es w → Throughout (called rows) R es w
+each_both : (rows : ℕ) (P Q R : SharedCall → World → Type 0) → ((c : SharedCall) (w : World) → P c w → Q c w → R c w) → (es : List SharedCall) (w : World)
+    → Throughout (shared_called rows) P es w → Throughout (shared_called rows) Q es w → Throughout (shared_called rows) R es w
 each_both rows P Q R join [] w p q = tt
-each_both rows P Q R join (c ∷ es) w p q = (join c w p.0 q.0, each_both rows P Q R join es (called rows c w) p.1 q.1)
+each_both rows P Q R join (c ∷ es) w p q = (join c w p.0 q.0, each_both rows P Q R join es (shared_called rows c w) p.1 q.1)
 
-module _ (rows : ℕ) (es : List Call) (w : World) where
+module _ (rows : ℕ) (es : List SharedCall) (w : World) where
   abbrev o : Outcome
   o = outcome rows owners es w
 
-  down-asked : o.on && o.under ≡ true → Throughout (called rows) (DownAsked rows) es w
+  down-asked : o.on && o.under ≡ true → Throughout (shared_called rows) (DownAsked rows) es w
   down-asked t =
       let a = (and-eq-true_iff o.on o.under).0 t in
-      each_both rows (OnIn rows) (λ c v. Under owners c) (DownAsked rows) (λ c v p q. (p, q)) es w (all-on rows owners es w a.0) (all_under rows owners es w a.1)
+      each_both rows (SharedOnIn rows) (λ c v. Under owners c) (DownAsked rows) (λ c v p q. (p, q)) es w (all-on rows owners es w a.0) (all_under rows owners es w a.1)
 
-  off-asked : o.free && o.under ≡ true → Throughout (called rows) (OffAsked rows) es w
+  off-asked : o.free && o.under ≡ true → Throughout (shared_called rows) (OffAsked rows) es w
   off-asked t =
       let a = (and-eq-true_iff o.free o.under).0 t in
       each_both rows (NoHomeDown rows) (λ c v. Under owners c) (OffAsked rows) (λ c v p q. (p, q)) es w (all-free rows owners es w a.0) (all_under rows owners es w a.1)
 
-  table-asked : o.on && o.free ≡ true → Throughout (called rows) (TableAsked rows) es w
+  table-asked : o.on && o.free ≡ true → Throughout (shared_called rows) (TableAsked rows) es w
   table-asked t =
       let a = (and-eq-true_iff o.on o.free).0 t in
-      each_both rows (OnIn rows) (NoHomeDown rows) (TableAsked rows) (λ c v p q. (p, q)) es w (all-on rows owners es w a.0) (all-free rows owners es w a.1)
+      each_both rows (SharedOnIn rows) (NoHomeDown rows) (TableAsked rows) (λ c v p q. (p, q)) es w (all-on rows owners es w a.0) (all-free rows owners es w a.1)
 
   -- all of it
-  all-calm : o.on && (o.free && o.under) ≡ true → Throughout (called rows) (Calm rows owners) es w
+  all-calm : o.on && (o.free && o.under) ≡ true → Throughout (shared_called rows) (Calm rows owners) es w
   all-calm t =
       let a = (and-eq-true_iff o.on (o.free && o.under)).0 t in
-      each_both rows (OnIn rows) (OffAsked rows) (Calm rows owners) (λ c v p q. record { on = p; no_home_down = q.0; under = q.1 }) es w (all-on rows owners es w a.0) (off-asked a.1)
+      each_both rows (SharedOnIn rows) (OffAsked rows) (Calm rows owners) (λ c v p q. record { on = p; no_home_down = q.0; under = q.1 }) es w (all-on rows owners es w a.0) (off-asked a.1)
 
 -- ---- two runs, each computed once: whether of both all is asked, what is told, or heard, and how they end
 pub record Shows : Type 0 where
   pub asked : Bool
-  pub one : List Told
-  pub other : List Told
+  pub one : List SharedTold
+  pub other : List SharedTold
 
-abbrev shows : List Told → List Told → Shows
+abbrev shows : List SharedTold → List SharedTold → Shows
 shows ts ts' = record { asked = true; one = ts; other = ts' }
 
-abbrev shown_by : (Outcome → Bool) → (Told → Told) → Outcome → Outcome → Shows
+abbrev shown_by : (Outcome → Bool) → (SharedTold → SharedTold) → Outcome → Outcome → Shows
 shown_by asks hears o p = record { asked = asks o && asks p; one = map hears o.told; other = map hears p.told }
 
-unfoldable showing : (Outcome → Bool) → (Told → Told) → ℕ → List Call → List Call → World → Shows
+unfoldable showing : (Outcome → Bool) → (SharedTold → SharedTold) → ℕ → List SharedCall → List SharedCall → World → Shows
 showing asks hears rows es es' w = shown_by asks hears (outcome rows owners es w) (outcome rows owners es' w)
 
 -- with the ends
@@ -82,13 +81,13 @@ pub record Ends : Type 0 where
 abbrev asks_all : Outcome → Bool
 asks_all o = o.on && (o.free && o.under)
 
-unfoldable ending : ℕ → List Call → List Call → World → Ends
+unfoldable ending : ℕ → List SharedCall → List SharedCall → World → Ends
 ending rows es es' w =
     let o = outcome rows owners es w in
     let p = outcome rows owners es' w in
     record { shows-all = shown_by asks_all heard_of o p; one_end = shown o.end; other-end = shown p.end }
 
-module _ (rows : ℕ) (asks : Outcome → Bool) (hears : Told → Told) (es es' : List Call) {ts ts' : List Told} (e : showing asks hears rows es es' (form rows) ≡ shows ts ts') where
+module _ (rows : ℕ) (asks : Outcome → Bool) (hears : SharedTold → SharedTold) (es es' : List SharedCall) {ts ts' : List SharedTold} (e : showing asks hears rows es es' (form rows) ≡ shows ts ts') where
   both-asked : (asks (outcome rows owners es (form rows)) ≡ true) × (asks (outcome rows owners es' (form rows)) ≡ true)
   unfolding showing
   both-asked = (and-eq-true_iff (asks (outcome rows owners es (form rows))) (asks (outcome rows owners es' (form rows)))).0 (ap (λ (x : Shows). x.asked) e)
@@ -98,7 +97,7 @@ module _ (rows : ℕ) (asks : Outcome → Bool) (hears : Told → Told) (es es' 
   both_told = (ap (λ (x : Shows). x.one) e, ap (λ (x : Shows). x.other) e)
 
 -- a run that is covered
-share : (rows : ℕ) (es es' : List Call) (end end' : List (List ℕ)) (ts : List Told) → rows ≤ 96 → common 2 es ≡ common 2 es'
+share : (rows : ℕ) (es es' : List SharedCall) (end end' : List (List ℕ)) (ts : List SharedTold) → rows ≤ 96 → common 2 es ≡ common 2 es'
     → ending rows es es' (form rows) ≡ record { shows-all = shows ts ts; one_end = end; other-end = end' } → SharedBy rows es es' end end' ts
 unfolding ending showing
 share rows es es' end end' ts few same e =
@@ -117,7 +116,7 @@ share rows es es' end end' ts few same e =
     }
 
 -- the same host bytes, cut and in one call
-cut : (rows : ℕ) → Throughout (called rows) (TakenWhole rows) in_two (form rows) → Throughout (called rows) (TakenWhole rows) in_one (form rows)
+cut : (rows : ℕ) → Throughout (shared_called rows) (TakenWhole rows) in_two (form rows) → Throughout (shared_called rows) (TakenWhole rows) in_one (form rows)
     → showing asks_all heard_of rows in_two in_one (form rows)
     ≡ shows (by_host 0 4 0 [] ∷ by_host 0 3 0 [] ∷ by_key 0 0 [] ∷ by_reading 0 6 (65 ∷ replicate 5 32) ∷ []) (by_host 0 7 0 [] ∷ by_key 0 0 [] ∷ by_reading 0 6 (65 ∷ replicate 5 32) ∷ [])
     → CutsCovered rows
@@ -135,12 +134,12 @@ cut rows t t' e =
     }
 
 -- a host's reply
-abbrev whole : Told → Told
+abbrev whole : SharedTold → SharedTold
 whole t = t
 
-map_whole : (l : List Told) → map whole l ≡ l
+map_whole : (l : List SharedTold) → map whole l ≡ l
 map_whole [] = refl
-map_whole (t ∷ l) = ap (λ (m : List Told). t ∷ m) (map_whole l)
+map_whole (t ∷ l) = ap (λ (m : List SharedTold). t ∷ m) (map_whole l)
 
 tell : (rows : ℕ)
     → showing asks_all whole rows (with_post transfer) transfer (form rows) ≡ shows (by_host 0 3 31 (block (49 ∷ 55 ∷ replicate 4 32)) ∷ []) (by_host 0 3 31 (block (replicate 6 32)) ∷ [])
@@ -157,17 +156,17 @@ tell rows e =
     }
 
 -- runs that are disturbed: where the first byte read back differs, what is heard does
-unfoldable first_read : Told → ℕ
+unfoldable first_read : SharedTold → ℕ
 first_read (by_host number taken written reply) = 0
 first_read (by_key number written reply) = 0
 first_read (by_post number) = 0
 first_read (by_report number count first) = 0
 first_read (by_reading number written out) = get_or out 0 0
 
-module _ (rows : ℕ) (asks : Outcome → Bool) (Asked : Call → World → Type 0)
-    (carry : (es : List Call) → asks (outcome rows owners es (form rows)) ≡ true → Throughout (called rows) Asked es (form rows))
+module _ (rows : ℕ) (asks : Outcome → Bool) (Asked : SharedCall → World → Type 0)
+    (carry : (es : List SharedCall) → asks (outcome rows owners es (form rows)) ≡ true → Throughout (shared_called rows) Asked es (form rows))
   where
-    disturb : (es es' : List Call) (ts ts' : List Told) → common 2 es ≡ common 2 es' → (k : ℕ)
+    disturb : (es es' : List SharedCall) (ts ts' : List SharedTold) → common 2 es ≡ common 2 es' → (k : ℕ)
         → eqb (first_read (get_or ts k (by_post 0))) (first_read (get_or ts' k (by_post 0))) ≡ false → showing asks heard_of rows es es' (form rows) ≡ shows ts ts' → Disturbed rows Asked es es' ts ts'
     disturb es es' ts ts' same k d e =
         let a = both-asked rows asks heard_of es es' e in
@@ -178,14 +177,14 @@ module _ (rows : ℕ) (asks : Outcome → Bool) (Asked : Call → World → Type
           other_asked = carry es' a.1;
           one_heard = outcome-heard rows owners es (form rows) ∙ t.0;
           other_heard = outcome-heard rows owners es' (form rows) ∙ t.1;
-          differ = differ-by (λ (l : List Told). first_read (get_or l k (by_post 0))) d;
+          differ = differ-by (λ (l : List SharedTold). first_read (get_or l k (by_post 0))) d;
         }
 
 -- home down
 abbrev asks_down : Outcome → Bool
 asks_down o = o.on && o.under
 
-down : (rows : ℕ) (c : Call) (t : Told) → common 2 (with_post (then_typed c)) ≡ common 2 (then_typed c)
+down : (rows : ℕ) (c : SharedCall) (t : SharedTold) → common 2 (with_post (then_typed c)) ≡ common 2 (then_typed c)
     → showing asks_down heard_of rows (with_post (then_typed c)) (then_typed c) (form rows) ≡ shows (typed_as t 32) (typed_as t 65)
     → Disturbed rows (DownAsked rows) (with_post (then_typed c)) (then_typed c) (typed_as t 32) (typed_as t 65)
 unfolding first_read
@@ -220,7 +219,7 @@ mix : {rows : ℕ} → 24 ≤ rows → rows ≤ 96 → (form rows).state.format 
 mix {rows} some few on k ends numbered =
     let m = a_key (a_post here (a_post here (a_post here done))) in
     let m' = a_post (later (eqb-false 2 1 refl) here) (a_post here (a_post here (a_key done))) in
-    let a = apart_by (handled_under rows owners) rows (λ k v. refl) tags (struck 65 ∷ []) (form rows) k in
+    let a = apart_by_step (handled_under rows owners) rows (λ k v. refl) tags (struck 65 ∷ []) (form rows) k in
     record {
       one_mixes = m;
       other_mixes = m';

@@ -96,11 +96,11 @@ keep_apart rows ps (k ∷ ks) w =
     not (eqb k.code 273) && (every (spares k.code (marks w.attrs) (cell_of w.state.cursor)) ps && keep_apart rows ps ks (handled rows (key k) w))
 
 -- whatever a post does, where a key does what it does
-pub apart_by : {T : Type 0} (step : Event Key T → World → World) (rows : ℕ) → ((k : Key) (w : World) → step (key k) w ≡ handled rows (key k) w) → (ps : List (Post T)) (ks : List Key) (w : World)
+pub apart_by_step : {T : Type 0} (step : Event Key T → World → World) (rows : ℕ) → ((k : Key) (w : World) → step (key k) w ≡ handled rows (key k) w) → (ps : List (Post T)) (ks : List Key) (w : World)
     → keep_apart rows ps ks w ≡ true → Apart step Reach NotEnter ps ks w
 unfolding keep_apart
-apart_by step rows same ps [] w t = tt
-apart_by step rows same ps (k ∷ ks) w t =
+apart_by_step step rows same ps [] w t = tt
+apart_by_step step rows same ps (k ∷ ks) w t =
     let ms = marks w.attrs in
     let cell = cell_of w.state.cursor in
     let next = handled rows (key k) w in
@@ -108,5 +108,8 @@ apart_by step rows same ps (k ∷ ks) w t =
     let b = (and-eq-true_iff (every (spares k.code ms cell) ps) (keep_apart rows ps ks next)).0 a.1 in (
       eqb-false k.code 273 (not-true (eqb k.code 273) a.0),
       λ f r. unnamed (spares k.code ms cell) ps f b.0 (spared k.code ms cell f r),
-      rw (same k w) (apart_by step rows same ps ks next b.1),
+      rw (same k w) (apart_by_step step rows same ps ks next b.1),
     )
+
+pub apart_by : (rows : ℕ) (ps : List (Post (List ℕ))) (ks : List Key) (w : World) → keep_apart rows ps ks w ≡ true → Apart (handled rows) Reach NotEnter ps ks w
+apart_by rows = apart_by_step (handled rows) rows (λ k v. refl)

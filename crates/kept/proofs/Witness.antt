@@ -88,7 +88,7 @@ tally-is rows (post field text ∷ es) w = ap (λ (l : List ℕ). (posted_to row
 cover : {rows : ℕ} {w : World} {ks : List Key} {ps : Posts} {es es' : Events} {end : List (List ℕ)} {ns : List ℕ} → Mixes rows w ks ps es es'
     → keep_apart rows ps ks w ≡ true → shown (run (handled rows) es' w) ≡ end → tally rows es' w ≡ ns → Covered rows w ks ps es es' end ns
 cover {rows} {w} {ks} {ps} {es} {es'} m a ends numbered =
-    let apart = apart_by (handled rows) rows (λ k v. refl) ps ks w a in
+    let apart = apart_by rows ps ks w a in
     record {
       mixes = m;
       apart = apart;
@@ -117,7 +117,7 @@ cover-rows : {rows : ℕ} {ks : List Key} {ps : Posts} {set : List ℕ} → Soun
     → set_from 0 (rows_of rows (run (handled rows) (posts_first ks ps) (reported_form rows)).state.changes) ≡ set → RowsCovered rows ks ps set
 cover-rows {rows} {ks} {ps} s on a none after =
     let m = both_ways s on ks ps in
-    let apart = apart_by (handled rows) rows (λ k v. refl) ps ks (reported_form rows) a in
+    let apart = apart_by rows ps ks (reported_form rows) a in
     record {
       mixes = m;
       apart = apart;

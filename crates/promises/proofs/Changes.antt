@@ -21,29 +21,27 @@ use Rattle.terminal.specs.Fresh.{fresh_refusal, freshened}
 use Rattle.terminal.proofs.Good.{in-good, sound-in}
 use Rattle.key.specs.Keys.{keyed}
 use Rattle.key.proofs.Kept.{key-ready, key-sound, key-number, key-refused}
-use Rattle.post.specs.Posts.{Posted, posted_to}
+use Rattle.post.specs.Posts.{posted_to}
 use Rattle.post.proofs.Kept.{post-ready, post-sound, post-refused}
-use Rattle.readers.specs.Owners.{posted_as}
-use Rattle.readers.proofs.Kept.{as-done, as-refused}
 use Rattle.streams.specs.Streams.{action_for, stepped_by, stepped, Hosted, fed_on, fed}
 use Rattle.streams.proofs.Kept.{stepped-sound, fed_by}
 use Rattle.streams.proofs.Steps.{stepped_on, fed_on-is}
 use Rattle.report.specs.Reports.{report_refusal, reported}
 use Rattle.records.specs.Records.{kind_of, number_of, data_of, form_refusal, Part, host_part, key_part, post_part, record_part, Ran, emptied, ran_from, record_ran}
 use Rattle.sessions.specs.Session.{next, went}
-use Rattle.promises.specs.Calls.{host, key, post, report, post_as, read_back}
+use Rattle.promises.specs.Calls.{host, key, post, report}
 use Rattle.promises.specs.Changes.{IsSet, cell_at, RowDiffers, BytesChange, ByteRows, ResetRows, CallRows, SessionRows, FreshRows, ReportRows}
 use Rattle.promises.proofs.Rows.{row-notes, key-notes, post-notes, step-notes}
 
 -- ---- one change after another, and none
 module _ {A B C X Y : Type 0} where
-  both : A ↔ B ⊎ X → C ↔ A ⊎ Y → C ↔ B ⊎ (X ⊎ Y)
+  pub both : A ↔ B ⊎ X → C ↔ A ⊎ Y → C ↔ B ⊎ (X ⊎ Y)
   both h k = (
     λ c. elim (k.0 c) [ inl a ↦ elim (h.0 a) [ inl b ↦ inl b | inr x ↦ inr (inl x) ] | inr y ↦ inr (inr y) ],
     λ o. k.1 (elim o [ inl b ↦ inl (h.1 (inl b)) | inr z ↦ elim z [ inl x ↦ inl (h.1 (inr x)) | inr y ↦ inr y ] ]),
   )
 
-none : {A X : Type 0} → ¬ X → A ↔ A ⊎ X
+pub none : {A X : Type 0} → ¬ X → A ↔ A ⊎ X
 none n = (inl, λ o. elim o [ inl a ↦ a | inr x ↦ absurd (n x) ])
 
 module _ (rows : ℕ) where
@@ -78,10 +76,10 @@ module _ (rows : ℕ) where
   module _ (few : rows ≤ 96) where
     -- ---- calls
     -- where nothing changes, no row does
-    unchanged : (w v : World) (r : ℕ) → v ≡ w → IsSet rows v.state r ↔ IsSet rows w.state r ⊎ RowDiffers w v r
+    pub unchanged : (w v : World) (r : ℕ) → v ≡ w → IsSet rows v.state r ↔ IsSet rows w.state r ⊎ RowDiffers w v r
     unchanged w v r e = subst (λ (u : World). IsSet rows u.state r ↔ IsSet rows w.state r ⊎ RowDiffers w u r) (sym e) (none (λ d. d.2 refl))
 
-    host-rows : (w : World) (bytes reply : List ℕ) (r : ℕ) → r < rows
+    pub host-rows : (w : World) (bytes reply : List ℕ) (r : ℕ) → r < rows
         → IsSet rows (fed rows w bytes reply).world.state r ↔ IsSet rows w.state r ⊎ BytesChange rows (take (fed rows w bytes reply).taken bytes) w r
     host-rows w bytes reply r l =
         fed_by (λ (h : Hosted). IsSet rows h.world.state r ↔ IsSet rows w.state r ⊎ BytesChange rows (take h.taken bytes) w r) rows w bytes reply
@@ -91,7 +89,7 @@ module _ (rows : ℕ) where
         (bytes-rows (take (fed_on rows bytes 0 0 w reply).taken bytes) w r (sound-in few s g) l))
         (λ n o. none (λ x. x))
 
-    key-rows : (w : World) (reply : List ℕ) (code r : ℕ) → r < rows
+    pub key-rows : (w : World) (reply : List ℕ) (code r : ℕ) → r < rows
         → IsSet rows (keyed rows w reply code).world.state r ↔ IsSet rows w.state r ⊎ RowDiffers w (keyed rows w reply code).world r
     key-rows w reply code r l = elim (eq-or (keyed rows w reply code).number 0) [
       | inl z ↦ (
@@ -100,7 +98,7 @@ module _ (rows : ℕ) where
       | inr z ↦ unchanged w (keyed rows w reply code).world r (key-refused rows w reply code z).same-world
     ]
 
-    post-rows : (w : World) (field : ℕ) (text : List ℕ) (r : ℕ) → r < rows
+    pub post-rows : (w : World) (field : ℕ) (text : List ℕ) (r : ℕ) → r < rows
         → IsSet rows (posted_to rows w field text).world.state r ↔ IsSet rows w.state r ⊎ RowDiffers w (posted_to rows w field text).world r
     post-rows w field text r l = elim (eq-or (posted_to rows w field text).number 0) [
       | inl z ↦ (
@@ -109,22 +107,12 @@ module _ (rows : ℕ) where
       | inr z ↦ unchanged w (posted_to rows w field text).world r (post-refused rows w field text z)
     ]
 
-    reader-rows : (w : World) (owners : List ℕ) (reader field : ℕ) (text : List ℕ) (r : ℕ) → r < rows
-        → IsSet rows (posted_as rows w owners reader field text).world.state r ↔ IsSet rows w.state r ⊎ RowDiffers w (posted_as rows w owners reader field text).world r
-    reader-rows w owners reader field text r l = elim (eq-or (posted_as rows w owners reader field text).number 0) [
-      | inl z ↦ subst (λ (p : Posted). IsSet rows p.world.state r ↔ IsSet rows w.state r ⊎ RowDiffers w p.world r) (sym (as-done rows w owners reader field text z)) (post-rows w field text r l)
-      | inr z ↦ unchanged w (posted_as rows w owners reader field text).world r (as-refused rows w owners reader field text z)
-    ]
-
     pub call_rows : CallRows rows
     call_rows [] w r q l = none (λ x. x)
     call_rows (host bytes reply ∷ calls) w r q l = both (host-rows w bytes reply r l) (call_rows calls (fed rows w bytes reply).world r q l)
     call_rows (key code reply ∷ calls) w r q l = both (key-rows w reply code r l) (call_rows calls (keyed rows w reply code).world r q l)
     call_rows (post field text ∷ calls) w r q l = both (post-rows w field text r l) (call_rows calls (posted_to rows w field text).world r q l)
     call_rows (report ∷ calls) w r q l = absurd q
-    call_rows (post_as owners reader field text ∷ calls) w r q l =
-        both (reader-rows w owners reader field text r l) (call_rows calls (posted_as rows w owners reader field text).world r q l)
-    call_rows (read_back owners reader field out ∷ calls) w r q l = both (none (λ x. x)) (call_rows calls w r q l)
 
     -- ---- records: each part is a call, or nothing
     module _ (r : ℕ) (l : r < rows) where

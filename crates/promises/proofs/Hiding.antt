@@ -34,7 +34,7 @@ use Rattle.readers.specs.Owners.{is_table, owns, posted_as, text_in_field, read_
 use Rattle.readers.proofs.Kept.{owner-is, as-ready, as-refused}
 use Rattle.mixing.specs.Event.{run, filtered, Throughout}
 use Rattle.mixing.proofs.Unseen.{steps-follow, post-follows, post-hides, undisturbed}
-use Rattle.promises.specs.Calls.{Call, host, key, post, report, post_as, read_back, called, Told, by_host, by_key, by_post, by_reading}
+use Rattle.promises.specs.SharedCalls.{SharedCall, host, key, post, report, post_as, read_back, shared_called, SharedTold, by_host, by_key, by_post, by_reading}
 use Rattle.promises.specs.Mixing.{Answer}
 use Rattle.promises.specs.Owners.{seen, heard_of, heard, NoneDown, Calm, AlikeBut, Undisturbed}
 use Rattle.promises.proofs.Machine.{Known, known, unset, Alive, sound, alive, key_reads, key_reach, Owned}
@@ -42,7 +42,7 @@ use Rattle.promises.proofs.Keys.{pressed, by, pressed-law}
 use Rattle.promises.proofs.Owned.{as-owned, plain-law, by-law}
 use Rattle.promises.proofs.Mixing.{refusal, refusal_is, does}
 use Rattle.promises.proofs.Following.{on-now, Similar, Follows, noted-similar, acted-similar, SimilarStreams, fed-similar}
-use Rattle.promises.proofs.Recovery.{called-sound}
+use Rattle.promises.proofs.SharedCalls.{shared-sound}
 
 -- ---- reading back
 -- two parts with the same bytes
@@ -152,7 +152,7 @@ module _ (rows : ℕ) (owners : List ℕ) (Hidden : ℕ → Type 0) (code : ℕ)
       go true t false = ap (λ (m : ℕ). record { number = m; written = 0; world = v; reply = reply }) (sym (eqb-true n 0 t))
       go false t e = refl
 
-  abbrev told_of : Keyed → Told
+  abbrev told_of : Keyed → SharedTold
   told_of k = by_key k.number k.written k.reply
 
   key-follows : ¬ (code ≡ 261) → (x y : World) → Alive rows (known rows x) → Alive rows (known rows y) → Similar rows owners Hidden x y
@@ -199,13 +199,13 @@ module _ (rows : ℕ) (owners : List ℕ) (hidden : ℕ) where
   ButTheirs x y = Similar rows owners Theirs x y
 
   -- sound worlds alone are met
-  Firm : Call → World → Type 0
+  Firm : SharedCall → World → Type 0
   Firm c w = Sound rows w × Calm rows owners c w
 
-  firm-all : (es : List Call) (w : World) → Sound rows w → Throughout (called rows) (Calm rows owners) es w → Throughout (called rows) Firm es w
+  firm-all : (es : List SharedCall) (w : World) → Sound rows w → Throughout (shared_called rows) (Calm rows owners) es w → Throughout (shared_called rows) Firm es w
   unfolding Firm
   firm-all [] w s t = tt
-  firm-all (c ∷ es) w s t = ((s, t.0), firm-all es (called rows c w) (called-sound c s) t.1)
+  firm-all (c ∷ es) w s t = ((s, t.0), firm-all es (shared_called rows c w) (shared-sound c s) t.1)
 
   alive-too : {x y : World} → ButTheirs x y → Alive rows (known rows x) → Alive rows (known rows y)
   alive-too r a = subst (Alive rows) r.states a
@@ -225,10 +225,10 @@ module _ (rows : ℕ) (owners : List ℕ) (hidden : ℕ) where
       rw (fed-on s bytes reply, fed-on u bytes reply) (fed-similar rows owners Theirs bytes 0 0 x y reply reply (omega arith) refl s u c r)
 
   -- what a call that is seen answers, and leaves, of two that are alike
-  abbrev Followed : Call → World → World → Type 0
-  Followed c x y = (heard rows c x ≡ heard rows c y) × ButTheirs (called rows c x) (called rows c y)
+  abbrev Followed : SharedCall → World → World → Type 0
+  Followed c x y = (heard rows c x ≡ heard rows c y) × ButTheirs (shared_called rows c x) (shared_called rows c y)
 
-  follows : (c : Call) (x y : World) → seen hidden c ≡ true → Firm c x → ButTheirs x y → Followed c x y
+  follows : (c : SharedCall) (x y : World) → seen hidden c ≡ true → Firm c x → ButTheirs x y → Followed c x y
   unfolding Firm
   follows (host bytes reply) x y v f r =
       let h = host-follows bytes reply x y f.0 f.1 r in
@@ -259,7 +259,7 @@ module _ (rows : ℕ) (owners : List ℕ) (hidden : ℕ) where
           (subst (λ (n : ℕ). owns owners n field ≡ true) (eqb-true k hidden v) o) x y a r
       go false o = rw (as-refused rows x owners k field text (λ z. false≢true (sym o ∙ (as-ready rows x owners k field text z).own))) r
 
-  hides : (c : Call) (x y : World) → seen hidden c ≡ false → Firm c x → ButTheirs x y → ButTheirs (called rows c x) y
+  hides : (c : SharedCall) (x y : World) → seen hidden c ≡ false → Firm c x → ButTheirs x y → ButTheirs (shared_called rows c x) y
   unfolding Firm
   hides (host bytes reply) x y v f r = absurd (false≢true (sym v))
   hides (key code reply) x y v f r = absurd (false≢true (sym v))
@@ -282,9 +282,9 @@ module _ (rows : ℕ) (owners : List ℕ) (hidden : ℕ) where
       }
 
 -- from a good state over memories of the right size
-pub apart-sound : (rows : ℕ) (owners : List ℕ) (hidden : ℕ) (w : World) → Sound rows w → (es es' : List Call) → filtered (seen hidden) es ≡ filtered (seen hidden) es'
-    → Throughout (called rows) (Calm rows owners) es w → Throughout (called rows) (Calm rows owners) es' w → Undisturbed rows owners hidden es es' w
+pub apart-sound : (rows : ℕ) (owners : List ℕ) (hidden : ℕ) (w : World) → Sound rows w → (es es' : List SharedCall) → filtered (seen hidden) es ≡ filtered (seen hidden) es'
+    → Throughout (shared_called rows) (Calm rows owners) es w → Throughout (shared_called rows) (Calm rows owners) es' w → Undisturbed rows owners hidden es es' w
 apart-sound rows owners hidden w s es es' e t t' =
-    let h = undisturbed (Owned rows owners) (Theirs rows owners hidden) (called rows) (heard rows) (seen hidden) (Firm rows owners hidden)
+    let h = undisturbed (Owned rows owners) (Theirs rows owners hidden) (shared_called rows) (heard rows) (seen hidden) (Firm rows owners hidden)
     (follows rows owners hidden) (hides rows owners hidden) w es es' e (firm-all rows owners hidden es w s t) (firm-all rows owners hidden es' w s t') in
-    record { same_heard = h.0; ends = as_said rows owners hidden (run (called rows) es w) (run (called rows) es' w) h.1 }
+    record { same_heard = h.0; ends = as_said rows owners hidden (run (shared_called rows) es w) (run (shared_called rows) es' w) h.1 }

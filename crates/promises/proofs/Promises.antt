@@ -22,6 +22,7 @@ use Rattle.promises.proofs.Records.{part_numbers, record_numbers, record_refusal
 use Rattle.promises.proofs.Sessions.{part-is-once, record-is-once, lines-is-once, end-is-once, session_lines, session_numbered, session_good, session_in_parts}
 use Rattle.promises.proofs.Recovery.{esc_recovers, calls_unread, calls_recover, sessions_recover}
 use Rattle.promises.proofs.Cuts.{cuts_agree, cuts_stop, parts_agree, calls_go_on, records_go_on}
+use Rattle.promises.proofs.SharedCalls.{shared_good_stays, shared_protected_stay, shared_call_rows, shared_calls_unread, shared_calls_recover}
 use Rattle.promises.proofs.Mixing.{mixes_agree}
 use Rattle.promises.proofs.Owned.{reader_mixes_agree}
 use Rattle.promises.proofs.Undisturbed.{readers_undisturbed}
@@ -63,6 +64,7 @@ kept_on rows some few c =
       report_refusals = report_refusals rows;
       fresh_good = fresh_good rows some;
       good_stays = good_stays rows few;
+      shared_good_stays = shared_good_stays rows few;
       fresh_once = fresh-is-once rows;
       key_once = key-is-once rows;
       post_once = post-is-once rows;
@@ -83,9 +85,11 @@ kept_on rows some few c =
       read_back_reads = read_back_reads rows few;
       post_reads_back = post_reads_back rows few;
       protected_stay = protected_stay rows few;
+      shared_protected_stay = shared_protected_stay rows few;
       byte_rows = byte_rows rows;
       reset_rows = reset_rows rows;
       call_rows = call_rows rows few;
+      shared_call_rows = shared_call_rows rows few;
       session_rows = session_rows rows few;
       fresh_rows = fresh_rows rows;
       report_rows = report_rows rows;
@@ -112,7 +116,9 @@ kept_on rows some few c =
       end_once = end-is-once;
       esc_recovers = esc_recovers rows;
       calls_unread = calls_unread rows;
+      shared_calls_unread = shared_calls_unread rows;
       calls_recover = calls_recover rows;
+      shared_calls_recover = shared_calls_recover rows;
       sessions_recover = sessions_recover rows some;
       cuts_agree = cuts_agree rows few;
       cuts_stop = cuts_stop rows few;

@@ -26,8 +26,6 @@ use Rattle.key.specs.Keys.{key_action, enter, key_refusal, Keyed, key_done, keye
 use Rattle.key.proofs.Kept.{key-sound}
 use Rattle.post.specs.Posts.{Posted, post_refusal, posted_at, posted_to}
 use Rattle.post.proofs.Kept.{post-sound}
-use Rattle.readers.specs.Owners.{post_as_refusal, posted_as, text_in_field, read_refusal, Read, read_back_of}
-use Rattle.readers.proofs.Kept.{as-left, as-sound}
 use Rattle.report.specs.declared.ReportAnswer.{ReportAnswer}
 use Rattle.report.specs.Reports.{report_refusal, reported}
 use Rattle.report.proofs.Kept.{report-sound}
@@ -41,20 +39,20 @@ use Rattle.records.proofs.Answered.{record-sound}
 use Rattle.sessions.specs.Session.{next, went}
 use Rattle.mixing.specs.Event.{run}
 use Rattle.promises.specs.Numbers.{sent}
-use Rattle.promises.specs.Calls.{Call, host, key, post, report, post_as, read_back, called, Told, by_host, by_key, by_post, by_report, by_reading, told}
+use Rattle.promises.specs.Calls.{Call, host, key, post, report, called, Told, by_host, by_key, by_post, by_report, told}
 use Rattle.promises.specs.Noise.{Misread, IsEsc, EscRecovers, all_told, bytes_of_call, CallsUnread, CallsRecover, bytes_of_record, SessionsRecover}
 use Rattle.promises.proofs.Records.{host-done, ran-other, ran-key, ran-post}
 
 -- ---- w with another reading state and another number
-abbrev misread : World → ℕ → Number → World
+abbrev pub misread : World → ℕ → Number → World
 misread w reading number = stated w (reread w.state reading number)
 
 -- what holds of each such one that is sound, holds of the other of two that differ in no more
-by-misread : (P : World → Type 0) {rows : ℕ} {w v : World} → Misread rows w v → ((reading : ℕ) (number : Number) → Sound rows (misread w reading number) → P (misread w reading number)) → P v
+pub by-misread : (P : World → Type 0) {rows : ℕ} {w v : World} → Misread rows w v → ((reading : ℕ) (number : Number) → Sound rows (misread w reading number) → P (misread w reading number)) → P v
 by-misread P {rows} {w} {v} m h = subst P (sym m.else_same) (h v.state.reading v.state.number (sound-by (sym m.else_same) m.other_sound))
 
 -- two that differ in no more
-are-misread : {rows : ℕ} {w v : World} → Sound rows w → Sound rows v → (reading : ℕ) (number : Number) → v ≡ misread w reading number → Misread rows w v
+pub are-misread : {rows : ℕ} {w v : World} → Sound rows w → Sound rows v → (reading : ℕ) (number : Number) → v ≡ misread w reading number → Misread rows w v
 are-misread {rows} {w} s t reading number e =
     record { sound = s; other_sound = t; else_same = e ∙ sym (ap (λ (u : World). misread w u.state.reading u.state.number) e) }
 
@@ -72,8 +70,6 @@ called-sound (host bytes reply) s = fed-sound s bytes reply
 called-sound (key code reply) s = key-sound s reply code
 called-sound (post field text) s = post-sound s text field
 called-sound report s = report-sound s
-called-sound (post_as owners reader field text) s = as-sound s owners reader field text
-called-sound (read_back owners reader field out) s = s
 
 -- ---- an ESC
 module _ (esc : ℕ) (e : IsEsc esc) where
@@ -98,7 +94,7 @@ module _ (esc : ℕ) (e : IsEsc esc) where
         ∙ esc-steps
         ∙ sym (ap (λ (a : ℕ). stepped_by rows a esc w) (esc-asks w.state))
 
-  esc-fed : {rows : ℕ} {w v : World} → Misread rows w v → (bytes reply : List ℕ) → fed rows v (esc ∷ bytes) reply ≡ fed rows w (esc ∷ bytes) reply
+  pub esc-fed : {rows : ℕ} {w v : World} → Misread rows w v → (bytes reply : List ℕ) → fed rows v (esc ∷ bytes) reply ≡ fed rows w (esc ∷ bytes) reply
   unfolding fed_on
   esc-fed {rows} {w} m bytes reply =
       by-misread (λ (v : World). fed rows v (esc ∷ bytes) reply ≡ fed rows w (esc ∷ bytes) reply) m
@@ -160,7 +156,7 @@ module _ (rows : ℕ) (w : World) (reading : ℕ) (number : Number) (s : Sound r
       rw (key-refusal code (length reply)) (choose-as rekeyed (eqb (key_refusal rows w code (length reply)) 0) (key-done reply code) refl)
 
   -- a post
-  abbrev reposted : Posted → Posted
+  abbrev pub reposted : Posted → Posted
   reposted p = record { number = p.number; world = misread p.world reading number }
 
   post-refusal : (field : ℕ) (text : List ℕ) → post_refusal rows other field text ≡ post_refusal rows w field text
@@ -172,34 +168,12 @@ module _ (rows : ℕ) (w : World) (reading : ℕ) (number : Number) (s : Sound r
   post-at text (At k) = refl
   post-at text Nothing = refl
 
-  post-unread : (field : ℕ) (text : List ℕ) → posted_to rows other field text ≡ reposted (posted_to rows w field text)
+  pub post-unread : (field : ℕ) (text : List ℕ) → posted_to rows other field text ≡ reposted (posted_to rows w field text)
   unfolding posted_to differing_rows
   post-unread field text =
       rw (post-refusal field text)
       (ap (λ (v : World). record { number = post_refusal rows w field text; world = v })
       (choose-as (λ (v : World). misread v reading number) (eqb (post_refusal rows w field text) 0) {y = w} (ap (noted rows other) (post-at text (nth_field (marks w.attrs) field))) refl))
-
-  -- a reader's post, and what it reads back
-  reader-refusal : (owners : List ℕ) (reader field : ℕ) (text : List ℕ) → post_as_refusal rows other owners reader field text ≡ post_as_refusal rows w owners reader field text
-  unfolding post_as_refusal first_refusal barred
-  reader-refusal owners reader field text = rw ((in-sound s).1, (in-sound t).1)
-
-  reader-unread : (owners : List ℕ) (reader field : ℕ) (text : List ℕ) → posted_as rows other owners reader field text ≡ reposted (posted_as rows w owners reader field text)
-  reader-unread owners reader field text =
-      as-left rows other owners reader field text
-      ∙ rw (reader-refusal owners reader field text)
-      (ap (λ (v : World). record { number = post_as_refusal rows w owners reader field text; world = v })
-      (choose-as (λ (v : World). misread v reading number) (eqb (post_as_refusal rows w owners reader field text) 0) {y = w} (ap (λ (p : Posted). p.world) (post-unread field text)) refl))
-      ∙ ap reposted (sym (as-left rows w owners reader field text))
-
-  text-unread : (f : Found) → text_in_field other f ≡ text_in_field w f
-  unfolding text_in_field
-  text-unread (At k) = refl
-  text-unread Nothing = refl
-
-  reading-unread : (owners : List ℕ) (reader field : ℕ) (out : List ℕ) → read_back_of rows other owners reader field out ≡ read_back_of rows w owners reader field out
-  unfolding read_back_of read_refusal first_refusal
-  reading-unread owners reader field out = rw ((in-sound s).1, (in-sound t).1, text-unread (nth_field (marks w.attrs) field))
 
   -- a report
   abbrev rereported : ReportAnswer → ReportAnswer
@@ -210,7 +184,7 @@ module _ (rows : ℕ) (w : World) (reading : ℕ) (number : Number) (s : Sound r
   report-unread = rw ((in-sound s).1, (in-sound t).1)
 
 -- one call: what it leaves, and what it answers
-one-unread : (rows : ℕ) (c : Call) (w : World) (reading : ℕ) (number : Number) → Sound rows w → Sound rows (misread w reading number) → bytes_of_call c ≡ []
+pub one-unread : (rows : ℕ) (c : Call) (w : World) (reading : ℕ) (number : Number) → Sound rows w → Sound rows (misread w reading number) → bytes_of_call c ≡ []
     → (called rows c (misread w reading number) ≡ misread (called rows c w) reading number) × (told rows c (misread w reading number) ≡ told rows c w)
 one-unread rows (host [] reply) w reading number s t q =
     let answer : Hosted → Told = λ h. by_host h.number h.taken h.written h.reply in (
@@ -227,11 +201,6 @@ one-unread rows (post field text) w reading number s t q =
 one-unread rows report w reading number s t q =
     let u = report-unread rows w reading number s t in
     (ap (λ (r : ReportAnswer). stated w r.state) u, ap (λ (r : ReportAnswer). by_report r.number r.count r.first) u)
-one-unread rows (post_as owners reader field text) w reading number s t q =
-    let u = reader-unread rows w reading number s t owners reader field text in
-    (ap (λ (p : Posted). p.world) u, ap (λ (p : Posted). by_post p.number) u)
-one-unread rows (read_back owners reader field out) w reading number s t q =
-    (refl, ap (λ (b : Read). by_reading b.number b.written b.out) (reading-unread rows w reading number s t owners reader field out))
 
 call-unread : {rows : ℕ} (c : Call) {w v : World} → Misread rows w v → bytes_of_call c ≡ [] → Misread rows (called rows c w) (called rows c v) × (told rows c v ≡ told rows c w)
 call-unread {rows} c {w} m q =

@@ -10,18 +10,18 @@ use Rattle.terminal.specs.Refusals.{first_refusal}
 use Rattle.terminal.proofs.Good.{freshened-good, freshened-refused}
 use Rattle.key.proofs.Kept.{key-refused, key_counts, key-good}
 use Rattle.post.proofs.Kept.{post-refused, post-good}
-use Rattle.readers.proofs.Kept.{as-refused, as_by}
+use Rattle.readers.proofs.Kept.{as-refused}
 use Rattle.readers.proofs.Readings.{read-refused, read-counts}
 use Rattle.streams.specs.Streams.{hosted, fed_on, host_refusal, fed}
 use Rattle.streams.proofs.Kept.{fed_on-number, fed_by, fed-good}
 use Rattle.streams.proofs.Streams.{fed_on-counts, fed_on-taken, fed_on-full}
 use Rattle.report.proofs.Kept.{report-refused, report-good}
-use Rattle.promises.specs.Calls.{Call, host, key, post, report, post_as, read_back, called}
+use Rattle.promises.specs.Calls.{Call, host, key, post, report, called}
 use Rattle.promises.specs.Refusals.{HostKeeps, FreshRefusals, KeyRefusals, PostRefusals, PostAsRefusals, ReadBackRefusals, HostRefusals, ReportRefusals, GoodShown, FreshGood, GoodStays}
 use Rattle.promises.proofs.Tables.{one_of}
 use Rattle.promises.proofs.Numbers.{fresh-chosen, key-chosen, post-chosen, post-as-chosen, read-back-chosen, report-chosen}
 
-good-shown : {rows : ℕ} {w : World} → Good rows w.state → GoodShown rows w
+pub good-shown : {rows : ℕ} {w : World} → Good rows w.state → GoodShown rows w
 good-shown {rows} {w} g =
     let p = g.place in
     record {
@@ -103,13 +103,11 @@ module _ (rows : ℕ) (few : rows ≤ 96) where
         beyond_stays = c.after;
       }
 
-  called-good : (c : Call) (w : World) → Good rows w.state → Good rows (called rows c w).state
+  pub called-good : (c : Call) (w : World) → Good rows w.state → Good rows (called rows c w).state
   called-good (host bytes reply) w g = fed-good rows w bytes reply few g
   called-good (key code reply) w g = key-good rows w reply code few g
   called-good (post field text) w g = post-good rows w field text g
   called-good report w g = report-good rows w.state g
-  called-good (post_as owners reader field text) w g = as_by rows w owners reader field text (λ v. Good rows v.state) (post-good rows w field text g) g
-  called-good (read_back owners reader field out) w g = g
 
   pub good_stays : GoodStays rows
   good_stays [] w g = good-shown g

@@ -8,12 +8,11 @@ use Rattle.terminal.specs.Fresh.{freshened}
 use Rattle.streams.specs.Streams.{stepped, fed}
 use Rattle.key.specs.Keys.{keyed}
 use Rattle.post.specs.Posts.{posted_to}
-use Rattle.readers.specs.Owners.{posted_as}
 use Rattle.report.specs.declared.ReportAnswer.{ReportAnswer}
 use Rattle.report.specs.Reports.{reported}
 use Rattle.sessions.specs.Session.{went}
 use Rattle.mixing.specs.Event.{run}
-use Rattle.promises.specs.Calls.{Call, host, key, post, report, post_as, read_back, called}
+use Rattle.promises.specs.Calls.{Call, host, key, post, report, called}
 
 -- row r is set in a state of `rows` rows
 abbrev pub IsSet : ℕ → Terminal → ℕ → Type 0
@@ -38,8 +37,6 @@ CallChanges rows (host bytes reply) w r = BytesChange rows (take (fed rows w byt
 CallChanges rows (key code reply) w r = RowDiffers w (keyed rows w reply code).world r
 CallChanges rows (post field text) w r = RowDiffers w (posted_to rows w field text).world r
 CallChanges rows report w r = ⊥
-CallChanges rows (post_as owners reader field text) w r = RowDiffers w (posted_as rows w owners reader field text).world r
-CallChanges rows (read_back owners reader field out) w r = ⊥
 
 -- one of the calls does
 abbrev pub CallsChange : ℕ → List Call → World → ℕ → Type 0
@@ -53,8 +50,6 @@ NoReport (host bytes reply ∷ calls) = NoReport calls
 NoReport (key code reply ∷ calls) = NoReport calls
 NoReport (post field text ∷ calls) = NoReport calls
 NoReport (report ∷ calls) = ⊥
-NoReport (post_as owners reader field text ∷ calls) = NoReport calls
-NoReport (read_back owners reader field out ∷ calls) = NoReport calls
 
 -- ---- a row is set afterwards exactly when it was set before or has been changed: after a host byte, and after any calls with no report, whatever they are given
 abbrev pub ByteRows : ℕ → Type 0

@@ -9,76 +9,75 @@ use Rattle.readers.specs.Owners.{owns, posted_as}
 use Rattle.records.specs.Records.{emptied}
 use Rattle.mixing.specs.Event.{Event, key, post, run, answers, filtered, Throughout}
 use Rattle.mixing.specs.Mix.{Post, Mixed, Apart, Agree}
-use Rattle.promises.specs.Calls as Calls
-use Rattle.promises.specs.Calls.{Call, called, Told, by_host, by_key, by_post, by_report, by_reading, told}
-use Rattle.promises.specs.Protected.{OnIn}
+use Rattle.promises.specs.SharedCalls as SharedCalls
+use Rattle.promises.specs.SharedCalls.{SharedCall, shared_called, SharedTold, by_host, by_key, by_post, by_report, by_reading, shared_told, SharedOnIn}
 use Rattle.promises.specs.Changes.{cell_at}
 use Rattle.promises.specs.Mixing.{Key, Answer, handled, answered, Reach, NotEnter}
 
 -- ---- one reader does not disturb the other
 
 -- all calls but the posts and readings back of the hidden reader, and reports
-abbrev pub seen : ℕ → Call → Bool
-seen hidden (Calls.host bytes reply) = true
-seen hidden (Calls.key code reply) = true
-seen hidden (Calls.post field text) = true
-seen hidden Calls.report = false
-seen hidden (Calls.post_as owners reader field text) = not (eqb reader hidden)
-seen hidden (Calls.read_back owners reader field out) = not (eqb reader hidden)
+abbrev pub seen : ℕ → SharedCall → Bool
+seen hidden (SharedCalls.host bytes reply) = true
+seen hidden (SharedCalls.key code reply) = true
+seen hidden (SharedCalls.post field text) = true
+seen hidden SharedCalls.report = false
+seen hidden (SharedCalls.post_as owners reader field text) = not (eqb reader hidden)
+seen hidden (SharedCalls.read_back owners reader field out) = not (eqb reader hidden)
 
 -- of a lent buffer the room alone: the call with zeros in its buffer
 abbrev pub zeroed : List ℕ → List ℕ
 zeroed buffer = replicate (length buffer) 0
 
-abbrev pub roomed : Call → Call
-roomed (Calls.host bytes reply) = Calls.host bytes (zeroed reply)
-roomed (Calls.key code reply) = Calls.key code (zeroed reply)
-roomed (Calls.post field text) = Calls.post field text
-roomed Calls.report = Calls.report
-roomed (Calls.post_as owners reader field text) = Calls.post_as owners reader field text
-roomed (Calls.read_back owners reader field out) = Calls.read_back owners reader field (zeroed out)
+abbrev pub roomed : SharedCall → SharedCall
+roomed (SharedCalls.host bytes reply) = SharedCalls.host bytes (zeroed reply)
+roomed (SharedCalls.key code reply) = SharedCalls.key code (zeroed reply)
+roomed (SharedCalls.post field text) = SharedCalls.post field text
+roomed SharedCalls.report = SharedCalls.report
+roomed (SharedCalls.post_as owners reader field text) = SharedCalls.post_as owners reader field text
+roomed (SharedCalls.read_back owners reader field out) = SharedCalls.read_back owners reader field (zeroed out)
 
 -- what two runs have in common that differ only in the hidden reader's calls and in reports: the same calls in the same order, with the same owners, host bytes, keys, reply room and
 -- posts
-abbrev pub common : ℕ → List Call → List Call
+abbrev pub common : ℕ → List SharedCall → List SharedCall
 common hidden calls = map roomed (filtered (seen hidden) calls)
 
 -- what a call tells: its numbers, and the bytes that it wrote into the lent buffer; of host bytes the numbers alone, since a block transfer sends every field
-abbrev pub heard_of : Told → Told
+abbrev pub heard_of : SharedTold → SharedTold
 heard_of (by_host number taken written reply) = by_host number taken written []
 heard_of (by_key number written reply) = by_key number written (take written reply)
 heard_of (by_post number) = by_post number
 heard_of (by_report number count first) = by_report number count first
 heard_of (by_reading number written out) = by_reading number written (take written out)
 
-abbrev pub heard : ℕ → Call → World → Told
-heard rows c w = heard_of (told rows c w)
+abbrev pub heard : ℕ → SharedCall → World → SharedTold
+heard rows c w = heard_of (shared_told rows c w)
 
 -- none of the host bytes asks for home down; of a call, none of those that it takes, nor the key
 abbrev pub NoneDown : ℕ → List ℕ → World → Type 0
 NoneDown rows [] w = Unit {0}
 NoneDown rows (b ∷ bytes) w = (¬ (action_for w.state b ≡ Action.home_down)) × NoneDown rows bytes (stepped rows b w)
 
-abbrev pub NoHomeDown : ℕ → Call → World → Type 0
-NoHomeDown rows (Calls.host bytes reply) w = NoneDown rows (take (fed rows w bytes reply).taken bytes) w
-NoHomeDown rows (Calls.key code reply) w = ¬ (code ≡ 261)
-NoHomeDown rows (Calls.post field text) w = Unit {0}
-NoHomeDown rows Calls.report w = Unit {0}
-NoHomeDown rows (Calls.post_as owners reader field text) w = Unit {0}
-NoHomeDown rows (Calls.read_back owners reader field out) w = Unit {0}
+abbrev pub NoHomeDown : ℕ → SharedCall → World → Type 0
+NoHomeDown rows (SharedCalls.host bytes reply) w = NoneDown rows (take (fed rows w bytes reply).taken bytes) w
+NoHomeDown rows (SharedCalls.key code reply) w = ¬ (code ≡ 261)
+NoHomeDown rows (SharedCalls.post field text) w = Unit {0}
+NoHomeDown rows SharedCalls.report w = Unit {0}
+NoHomeDown rows (SharedCalls.post_as owners reader field text) w = Unit {0}
+NoHomeDown rows (SharedCalls.read_back owners reader field out) w = Unit {0}
 
 -- a reader's call is made with this owner table
-abbrev pub Under : List ℕ → Call → Type 0
-Under owners (Calls.host bytes reply) = Unit {0}
-Under owners (Calls.key code reply) = Unit {0}
-Under owners (Calls.post field text) = Unit {0}
-Under owners Calls.report = Unit {0}
-Under owners (Calls.post_as table reader field text) = table ≡ owners
-Under owners (Calls.read_back table reader field out) = table ≡ owners
+abbrev pub Under : List ℕ → SharedCall → Type 0
+Under owners (SharedCalls.host bytes reply) = Unit {0}
+Under owners (SharedCalls.key code reply) = Unit {0}
+Under owners (SharedCalls.post field text) = Unit {0}
+Under owners SharedCalls.report = Unit {0}
+Under owners (SharedCalls.post_as table reader field text) = table ≡ owners
+Under owners (SharedCalls.read_back table reader field out) = table ≡ owners
 
 -- format mode is on when the call begins, and after each host byte that it takes; no home down; and the one owner table
-pub record Calm (rows : ℕ) (owners : List ℕ) (c : Call) (w : World) : Type 0 where
-  pub on : OnIn rows c w
+pub record Calm (rows : ℕ) (owners : List ℕ) (c : SharedCall) (w : World) : Type 0 where
+  pub on : SharedOnIn rows c w
   pub no_home_down : NoHomeDown rows c w
   pub under : Under owners c
 
@@ -89,45 +88,45 @@ pub record AlikeBut (rows : ℕ) (owners : List ℕ) (hidden : ℕ) (w v : World
   pub cells_same : (cell : ℕ) → cell < rows * 80 → ((field : ℕ) → owns owners hidden field ≡ true → holds (marks w.attrs) field cell ≡ false) → cell_at w cell ≡ cell_at v cell
 
 -- each call that is seen tells the same in both runs, what is read back too, and the ends are alike but for the fields of the hidden reader
-pub record Undisturbed (rows : ℕ) (owners : List ℕ) (hidden : ℕ) (es es' : List Call) (w : World) : Type 0 where
-  pub same_heard : answers (called rows) (heard rows) (seen hidden) es w ≡ answers (called rows) (heard rows) (seen hidden) es' w
-  pub ends : AlikeBut rows owners hidden (run (called rows) es w) (run (called rows) es' w)
+pub record Undisturbed (rows : ℕ) (owners : List ℕ) (hidden : ℕ) (es es' : List SharedCall) (w : World) : Type 0 where
+  pub same_heard : answers (shared_called rows) (heard rows) (seen hidden) es w ≡ answers (shared_called rows) (heard rows) (seen hidden) es' w
+  pub ends : AlikeBut rows owners hidden (run (shared_called rows) es w) (run (shared_called rows) es' w)
 
 -- Take two runs from the same memory and state, each with format mode on throughout and no home down by host or key, under the same owners, with the same host bytes, keys, reply room
 -- and posts, that differ only in the posts and readings back of one reader, in number, place or text, and in reports. Then the other reader gets the same answers and reads the same
 -- text each time, and host and keys get the same answers too. This holds of either reader, of whatever memory and state the runs start from, and of up to 96 rows
 abbrev pub ReadersUndisturbed : ℕ → Type 0
 ReadersUndisturbed rows =
-    (owners : List ℕ) (hidden : ℕ) (w : World) (es es' : List Call) → common hidden es ≡ common hidden es'
-    → Throughout (called rows) (Calm rows owners) es w → Throughout (called rows) (Calm rows owners) es' w
+    (owners : List ℕ) (hidden : ℕ) (w : World) (es es' : List SharedCall) → common hidden es ≡ common hidden es'
+    → Throughout (shared_called rows) (Calm rows owners) es w → Throughout (shared_called rows) (Calm rows owners) es' w
     → Undisturbed rows owners hidden es es' w
 
 -- ---- however the host's bytes are cut into calls
 
 -- a call byte by byte: each host byte in a call of its own, with a reply buffer that takes any one reply; every other call as it is
-abbrev pub by_bytes : ℕ → Call → List Call
-by_bytes rows (Calls.host bytes reply) = map (λ (b : ℕ). Calls.host (b ∷ []) (emptied rows)) bytes
-by_bytes rows (Calls.key code reply) = Calls.key code reply ∷ []
-by_bytes rows (Calls.post field text) = Calls.post field text ∷ []
-by_bytes rows Calls.report = Calls.report ∷ []
-by_bytes rows (Calls.post_as owners reader field text) = Calls.post_as owners reader field text ∷ []
-by_bytes rows (Calls.read_back owners reader field out) = Calls.read_back owners reader field out ∷ []
+abbrev pub by_bytes : ℕ → SharedCall → List SharedCall
+by_bytes rows (SharedCalls.host bytes reply) = map (λ (b : ℕ). SharedCalls.host (b ∷ []) (emptied rows)) bytes
+by_bytes rows (SharedCalls.key code reply) = SharedCalls.key code reply ∷ []
+by_bytes rows (SharedCalls.post field text) = SharedCalls.post field text ∷ []
+by_bytes rows SharedCalls.report = SharedCalls.report ∷ []
+by_bytes rows (SharedCalls.post_as owners reader field text) = SharedCalls.post_as owners reader field text ∷ []
+by_bytes rows (SharedCalls.read_back owners reader field out) = SharedCalls.read_back owners reader field out ∷ []
 
-abbrev pub all_by_bytes : ℕ → List Call → List Call
+abbrev pub all_by_bytes : ℕ → List SharedCall → List SharedCall
 all_by_bytes rows [] = []
 all_by_bytes rows (c ∷ calls) = by_bytes rows c ++ all_by_bytes rows calls
 
 -- the stream of a host call is taken whole
-abbrev pub TakenWhole : ℕ → Call → World → Type 0
-TakenWhole rows (Calls.host bytes reply) w = (fed rows w bytes reply).number ≡ 0
-TakenWhole rows (Calls.key code reply) w = Unit {0}
-TakenWhole rows (Calls.post field text) w = Unit {0}
-TakenWhole rows Calls.report w = Unit {0}
-TakenWhole rows (Calls.post_as owners reader field text) w = Unit {0}
-TakenWhole rows (Calls.read_back owners reader field out) w = Unit {0}
+abbrev pub TakenWhole : ℕ → SharedCall → World → Type 0
+TakenWhole rows (SharedCalls.host bytes reply) w = (fed rows w bytes reply).number ≡ 0
+TakenWhole rows (SharedCalls.key code reply) w = Unit {0}
+TakenWhole rows (SharedCalls.post field text) w = Unit {0}
+TakenWhole rows SharedCalls.report w = Unit {0}
+TakenWhole rows (SharedCalls.post_as owners reader field text) w = Unit {0}
+TakenWhole rows (SharedCalls.read_back owners reader field out) w = Unit {0}
 
 -- what keys and readers hear: all but what the host does
-abbrev pub not_host : Told → Bool
+abbrev pub not_host : SharedTold → Bool
 not_host (by_host number taken written reply) = false
 not_host (by_key number written reply) = true
 not_host (by_post number) = true
@@ -138,11 +137,11 @@ not_host (by_reading number written out) = true
 -- into calls anywhere, inside a sequence too, for posts of the hidden reader or for nothing
 abbrev pub CutsUndisturbed : ℕ → Type 0
 CutsUndisturbed rows =
-    (owners : List ℕ) (hidden : ℕ) (w : World) (es es' : List Call) → common hidden (all_by_bytes rows es) ≡ common hidden (all_by_bytes rows es')
-    → Throughout (called rows) (Calm rows owners) es w → Throughout (called rows) (Calm rows owners) es' w
-    → Throughout (called rows) (TakenWhole rows) es w → Throughout (called rows) (TakenWhole rows) es' w
-    → (filtered not_host (answers (called rows) (heard rows) (seen hidden) es w) ≡ filtered not_host (answers (called rows) (heard rows) (seen hidden) es' w))
-    × AlikeBut rows owners hidden (run (called rows) es w) (run (called rows) es' w)
+    (owners : List ℕ) (hidden : ℕ) (w : World) (es es' : List SharedCall) → common hidden (all_by_bytes rows es) ≡ common hidden (all_by_bytes rows es')
+    → Throughout (shared_called rows) (Calm rows owners) es w → Throughout (shared_called rows) (Calm rows owners) es' w
+    → Throughout (shared_called rows) (TakenWhole rows) es w → Throughout (shared_called rows) (TakenWhole rows) es' w
+    → (filtered not_host (answers (shared_called rows) (heard rows) (seen hidden) es w) ≡ filtered not_host (answers (shared_called rows) (heard rows) (seen hidden) es' w))
+    × AlikeBut rows owners hidden (run (shared_called rows) es w) (run (shared_called rows) es' w)
 
 -- ---- the mixing promise for posts of both readers
 

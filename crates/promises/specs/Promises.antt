@@ -13,6 +13,7 @@ use Rattle.promises.specs.Changes.{ByteRows, ResetRows, CallRows, SessionRows, F
 use Rattle.promises.specs.Sessions.{PartNumbers, RecordNumbers, RecordRefusals, HostRecords, PartOnce, RecordOnce, LinesOnce, EndOnce, SessionLines, SessionNumbered, SessionGood, SessionInParts}
 use Rattle.promises.specs.Example.{SessionExample}
 use Rattle.promises.specs.Noise.{EscRecovers, CallsUnread, CallsRecover, SessionsRecover, CutsAgree, CutsStop, PartsAgree, CallsGoOn, RecordsGoOn, NoiseCases, EscNeeded}
+use Rattle.promises.specs.SharedCalls.{SharedGoodStays, SharedProtectedStay, SharedCallRows, SharedCallsUnread, SharedCallsRecover}
 use Rattle.promises.specs.Mixing.{MixesAgree}
 use Rattle.promises.specs.Owners.{ReadersUndisturbed, CutsUndisturbed, ReaderMixesAgree}
 use Rattle.promises.specs.Shared.{ReadersCovered, CutsCovered, RepliesTell, HomeDownDisturbs, FormatOffDisturbs, TableDisturbs, TagsCovered}
@@ -31,6 +32,7 @@ pub record Promises (rows : ℕ) : Type 1 where
   -- a good state stays good, and so the cursor never leaves display memory
   pub fresh_good : FreshGood rows
   pub good_stays : GoodStays rows
+  pub shared_good_stays : SharedGoodStays rows
   -- ---- 2. it does what the rules say
   -- a contract leaves no choice
   pub fresh_once : FreshOnce rows
@@ -58,10 +60,12 @@ pub record Promises (rows : ℕ) : Type 1 where
   pub post_reads_back : PostReadsBack rows
   -- while format mode stays on, no protected cell changes its character; it keeps its attribute byte too, and every cell its mark
   pub protected_stay : ProtectedStay rows
+  pub shared_protected_stay : SharedProtectedStay rows
   -- a row is set exactly when it was or has been changed, a fresh terminal has all rows set, and a report tells of them and clears them
   pub byte_rows : ByteRows rows
   pub reset_rows : ResetRows rows
   pub call_rows : CallRows rows
+  pub shared_call_rows : SharedCallRows rows
   pub session_rows : SessionRows rows
   pub fresh_rows : FreshRows rows
   pub report_rows : ReportRows rows
@@ -94,7 +98,9 @@ pub record Promises (rows : ℕ) : Type 1 where
   -- noise on the line: reading recovers at an ESC
   pub esc_recovers : EscRecovers rows
   pub calls_unread : CallsUnread rows
+  pub shared_calls_unread : SharedCallsUnread rows
   pub calls_recover : CallsRecover rows
+  pub shared_calls_recover : SharedCallsRecover rows
   pub sessions_recover : SessionsRecover rows
   -- a stream is the same however it is cut, and with whatever reply buffers it goes on
   pub cuts_agree : CutsAgree rows
