@@ -1,6 +1,6 @@
 -- What the code does with the two words of a set, and the lists that they then stand for. Assumes nothing.
 use Prim.Native.Nat.{ℕ, ◌+◌, ◌-◌, ◌*◌, ◌/◌, ◌%◌, ◌<◌, ◌≤◌, ◌^◌}
-use mathlib.Core.Path.{◌≡◌, sym, ap, ap₂, ◌∙◌}
+use mathlib.Core.Path.{◌≡◌, refl, sym, ap, ap₂, ◌∙◌}
 use mathlib.Core.Bool.{Bool, true, false}
 use mathlib.Core.List.{List, ◌∷◌}
 use native.Mathlib.Omega.{arith}
@@ -12,11 +12,12 @@ use lib.Count.{ones, ones_cat, count_trailing_zeros}
 use lib.Pow.{pow-lt, pow_mono, pow_pos, pow-add, shr-shr}
 use lib.Bits.{bit_or, or_zero_r, or_mod, or_shr}
 use borrow.Author.Tests.{lt-ltb, le-ltb}
+use mir.Val.{bool_byte}
 use Rattle.changes.specs.declared.Changes.{Changes}
 use Rattle.changes.specs.Sets.{digit, word_of, digits_of, whole, set_of, rows_of, no_spare, either, count_true, first_true}
 use Rattle.changes.specs.Rows.{only}
 use Rattle.changes.proofs.Digits.{digit_lt, word_lt, digit_at, digit-below, word-either, word_none, word-one, word-all, count-is, first-is, first-none, first-low, first-high}
-use Rattle.changes.proofs.Sets.{Words, words, words_of, spare-in}
+use Rattle.changes.proofs.Sets.{Words, words, words_of, spare-in, only_none}
 
 -- the code's `1 << r`
 pub shifted : (r : ℕ) → r < 64 → 1 * 2 ^ r % 2 ^ 64 ≡ 2 ^ r
@@ -26,15 +27,22 @@ shifted r h = ap (λ (x : ℕ). x % 2 ^ 64) (one-mul (2 ^ r)) ∙ mod-eq_of_lt (
 high-power : (n : ℕ) → 64 ≤ n → 2 ^ n ≡ 2 ^ (n - 64) * 2 ^ 64
 high-power n h = let e : n ≡ n - 64 + 64 = omega arith in ap (λ (k : ℕ). 2 ^ k) e ∙ pow-add 2 (n - 64) 64
 
+-- the code's `on as u64`
+pub as_digit : (on : Bool) → bool_byte on ≡ digit on
+as_digit true = refl
+as_digit false = refl
+
 -- ---- no row, one row, all rows
 pub none-words : (n : ℕ) → Words (word_of (replicate n false)) 0 0
 none-words n = words 0 0 (omega arith) (word_none n ∙ omega arith)
 
-pub one-low : (n r : ℕ) → r < n → r < 64 → Words (word_of (only n r true)) (2 ^ r) 0
-one-low n r h l = words 0 (2 ^ r) (pow-lt l) (word-one n r h ∙ omega arith)
+pub one-low : (n r : ℕ) (on : Bool) → r < n → r < 64 → Words (word_of (only n r on)) (digit on * 2 ^ r % 2 ^ 64) 0
+one-low n r true h l = rw (shifted r l) (words 0 (2 ^ r) (pow-lt l) (word-one n r h ∙ omega arith))
+one-low n r false h l = rw (only_none n r) (words 0 (0 * 2 ^ r % 2 ^ 64) (omega arith) (word_none n ∙ omega arith))
 
-pub one-high : (n r : ℕ) → r < n → 64 ≤ r → Words (word_of (only n r true)) 0 (2 ^ (r - 64))
-one-high n r h l = words (2 ^ (r - 64)) 0 (omega arith) (word-one n r h ∙ omega (arith, high-power r l))
+pub one-high : (n r : ℕ) (on : Bool) → r < n → 64 ≤ r → r < 96 → Words (word_of (only n r on)) 0 (digit on * 2 ^ (r - 64) % 2 ^ 64)
+one-high n r true h l m = rw (shifted (r - 64) (omega arith)) (words (2 ^ (r - 64)) 0 (omega arith) (word-one n r h ∙ omega (arith, high-power r l)))
+one-high n r false h l m = rw (only_none n r) (words (0 * 2 ^ (r - 64) % 2 ^ 64) 0 (omega arith) (word_none n ∙ omega arith))
 
 pub all-low : (n : ℕ) → n < 64 → Words (word_of (replicate n true)) (2 ^ n - 1) 0
 all-low n h = words 0 (2 ^ n - 1) (omega (arith, pow_mono {i = n} {j = 63} (omega arith))) (sym (word-all n) ∙ omega arith)

@@ -5,7 +5,7 @@ ghost use Rattle.std.specs.Prelude.{◌≡◌, Bool, true, false, List, ◌∷�
 ghost use Rattle.changes.specs.Sets.{set_of, rows_of, no_spare, either, count_true, first_true};
 ghost use Rattle.changes.specs.Rows.{only};
 
-#[derive(Clone, Copy)]
+#[derive(Clone, Copy, Default, PartialEq, Eq)]
 pub struct Changes {
     pub low: u64,
     pub high: u64,
@@ -23,7 +23,7 @@ impl Changes {
     pub fn none() -> Changes
         ensures { (n : ℕ) → result ≡ set_of (replicate n false) }
     {
-        Changes { low: 0, high: 0 }
+        Changes::default()
     }
 
     // Every row.
@@ -38,7 +38,7 @@ impl Changes {
             };
         }
         Changes {
-            low: 18446744073709551615,
+            low: u64::MAX,
             high: (1u64 << rows - 64) - 1,
         }
     }
@@ -48,18 +48,15 @@ impl Changes {
         requires { row < 96 }
         ensures { (n : ℕ) → row < n → result ≡ set_of (only n row on) }
     {
-        if !on {
-            return Changes { low: 0, high: 0 };
-        }
         if row < 64 {
             return Changes {
-                low: 1u64 << row,
+                low: (on as u64) << row,
                 high: 0,
             };
         }
         Changes {
             low: 0,
-            high: 1u64 << row - 64,
+            high: (on as u64) << row - 64,
         }
     }
 
@@ -68,11 +65,7 @@ impl Changes {
         requires { rows ≤ 96 }
         ensures { (result ≡ true → self ≡ set_of (replicate rows true)) × (self ≡ set_of (replicate rows true) → result ≡ true) }
     {
-        let all = Changes::all(rows);
-        if self.low != all.low {
-            return false;
-        }
-        self.high == all.high
+        self == Changes::all(rows)
     }
 
     // Whether no bit beyond the rows is set.
@@ -81,10 +74,7 @@ impl Changes {
         ensures { result ≡ no_spare rows self }
     {
         if rows < 64 {
-            if self.high != 0 {
-                return false;
-            }
-            return self.low < 1u64 << rows;
+            return self.high == 0 && self.low < 1u64 << rows;
         }
         self.high < 1u64 << rows - 64
     }
@@ -114,17 +104,9 @@ impl Changes {
     pub fn behind(self, on: bool) -> Changes
         ensures { (l : List Bool) → length l < 96 → self ≡ set_of l → result ≡ set_of (on ∷ l) }
     {
-        let twice = self.low % 9223372036854775808 * 2;
-        let high = self.high % 9223372036854775808 * 2 + self.low / 9223372036854775808;
-        if on {
-            return Changes {
-                low: twice + 1,
-                high: high,
-            };
-        }
         Changes {
-            low: twice,
-            high: high,
+            low: (self.low << 1) + on as u64,
+            high: (self.high << 1) + (self.low >> 63),
         }
     }
 
@@ -133,22 +115,14 @@ impl Changes {
         requires { (rows ≤ 96) × (no_spare rows self ≡ true) }
         ensures { result ≡ record { count = count_true (rows_of rows self); first = first_true (rows_of rows self) } }
     {
-        let n = u64::count_ones(self.low) + u64::count_ones(self.high);
-        if self.low != 0 {
-            return Report {
-                count: n,
-                first: u64::trailing_zeros(self.low),
-            };
-        }
-        if self.high != 0 {
-            return Report {
-                count: n,
-                first: 64 + u64::trailing_zeros(self.high),
-            };
-        }
-        Report {
-            count: n,
-            first: rows as u32,
-        }
+        let count = self.low.count_ones() + self.high.count_ones();
+        let first = if self.low != 0 {
+            self.low.trailing_zeros()
+        } else if self.high != 0 {
+            64 + self.high.trailing_zeros()
+        } else {
+            rows as u32
+        };
+        Report { count, first }
     }
 }

@@ -133,11 +133,6 @@ module _ (n r at : ℕ) (xs : List ℕ) (here : r < n) (long : length xs ≡ n *
       (λ k a b. let i : r * 80 - 80 + (k - r * 80) ≡ k - 80 = omega arith in rw i (above k h a)))
       ∙ down-row n r xs here long at v (r * 80) inside (omega arith)
 
-  pub down-first : at < r → (get_or xs (r * 80) 0 ≡ get_or xs (r * 80 - 80) 0 → ⊥) → true ≡ differs (row_of r xs) (row_of r (moved_down xs (at * 80) v))
-  down-first h d =
-      altered xs (r * 80) (r * 80 + 80) (from_above n r xs here long at v) (omega arith) (r * 80) (omega arith) (omega arith) (λ q. d (q ∙ sym (above (r * 80) h (omega arith))))
-      ∙ down-row n r xs here long at v (r * 80) inside (omega arith)
-
 -- ---- both memories, where the rows below row `at` move up and the last character counts as e
 abbrev pub up_told : ℕ → ℕ → ℕ → List ℕ → List ℕ → ℕ → Bool
 up_told n r at chars attrs e = differs (row_of r chars) (row_of r (moved_up (set chars (n * 80 - 1) e) (at * 80) 32)) || differs (row_of r attrs) (row_of r (moved_up attrs (at * 80) 0))

@@ -1,13 +1,15 @@
 -- A patch changes a memory where one of its cells differs; a patch within a row; the row of a longer patch. Assumes nothing.
-use Prim.Native.Nat.{ℕ, ◌+◌, ◌*◌, ◌≤◌, ◌<◌, max}
+use Prim.Native.Nat.{ℕ, ◌+◌, ◌-◌, ◌*◌, ◌≤◌, ◌<◌, max}
 use mathlib.Core.Path.{◌≡◌, refl, sym, ap, ◌∙◌}
-use mathlib.Core.Bool.{Bool, true, false, cond}
+use mathlib.Core.Bool.{Bool, true, false, cond, ◌||◌, not}
 use mathlib.Core.Logic.{inl, inr}
 use mathlib.Core.List.{List}
 use native.Mathlib.Omega.{arith}
-use lib.ListN.{length, get_or, set, length-set}
-use lib.Seq.{get_or-set_other}
+use lib.ListN.{length, get_or, set, take, drop, length-set, length-take, length-drop}
+use lib.Seq.{ext_get_or, get_or-set_other, get_or-take, get_or-drop}
 use lib.Dec.{ltb}
+use Rattle.std.specs.Str.{bytes_eq}
+use Rattle.std.proofs.lemmas.Slice.Eq.{bytes_eq-Decides}
 use Rattle.cells.specs.Memory.{patch, changed_where}
 use Rattle.cells.proofs.Patch.{lt-or, eq-or, patched, done, done-upto}
 use Rattle.changes.specs.Differing.{differs}
@@ -83,6 +85,53 @@ seen_same {xs} {lo} {i} {j} {f} {on} s fits same n =
         | inr t ↦ t ∙ kept xs lo j f (λ k a l. elim (eq-or k i) [ inl q ↦ rw q same | inr q ↦ each_same xs lo i f (omega arith) t k a (omega arith) ])
       ];
     }
+
+-- ---- a patch in two stretches that meet, and the code's `!=` of two parts: a patch that takes its cells from another place
+pub stretches : (xs : List ℕ) (lo mid hi : ℕ) (f : ℕ → ℕ) → lo ≤ mid → mid ≤ hi → hi ≤ length xs → differs xs (patch xs lo mid f) || differs xs (patch xs mid hi f) ≡ differs xs (patch xs lo hi f)
+stretches xs lo mid hi f a b fits =
+    elim (true-or (differs xs (patch xs lo mid f))) [
+      | inl t ↦ elim (true-or (differs xs (patch xs lo hi f))) [
+        | inl u ↦ rw t (sym u)
+        | inr u ↦ (let e = kept xs lo mid f (λ k c l. each_same xs lo hi f fits u k c (omega arith)) in absurd (cc (t, e)))
+      ]
+      | inr t ↦ rw t (ap (differs xs) (sym (patch-from xs lo hi f fits mid a b (each_same xs lo mid f (omega arith) t))))
+    ]
+
+pub length-part : (xs : List ℕ) (lo hi : ℕ) → hi ≤ length xs → length (take (hi - lo) (drop lo xs)) ≡ hi - lo
+length-part xs lo hi h = simp (length-take, length-drop) (omega arith)
+
+pub part-at : (xs : List ℕ) (lo n j : ℕ) → j < n → get_or (take n (drop lo xs)) j 0 ≡ get_or xs (lo + j) 0
+part-at xs lo n j h = get_or-take n (drop lo xs) j 0 h ∙ get_or-drop lo xs j 0
+
+module _ (xs zs : List ℕ) (lo hi n : ℕ) (f : ℕ → ℕ) (q : n ≡ hi - lo) (z : length zs ≡ hi - lo) (up : lo ≤ hi) (fits : hi ≤ length xs) (taken : (k : ℕ) → lo ≤ k → k < hi → f k ≡ get_or zs (k - lo) 0) where
+  part-each : take n (drop lo xs) ≡ zs → (k : ℕ) → lo ≤ k → k < hi → get_or xs k 0 ≡ f k
+  part-each e k a l =
+      let i : lo + (k - lo) ≡ k = omega arith in
+      ap (λ (j : ℕ). get_or xs j 0) (sym i) ∙ sym (part-at xs lo n (k - lo) (omega arith)) ∙ ap (λ (t : List ℕ). get_or t (k - lo) 0) e ∙ sym (taken k a l)
+
+  part-equal : ((k : ℕ) → lo ≤ k → k < hi → get_or xs k 0 ≡ f k) → take n (drop lo xs) ≡ zs
+  part-equal each =
+      let u : length (take n (drop lo xs)) ≡ hi - lo = simp (length-take, length-drop) (omega arith) in
+      ext_get_or 0 (take n (drop lo xs)) zs (u ∙ sym z)
+      (λ j l.
+      let i : lo + j - lo ≡ j = omega arith in
+      part-at xs lo n j (omega arith) ∙ each (lo + j) (omega arith) (omega arith) ∙ taken (lo + j) (omega arith) (omega arith) ∙ ap (λ (k : ℕ). get_or zs k 0) i)
+
+  pub part-told : {t : Bool} → t ≡ not (bytes_eq (take n (drop lo xs)) zs) → t ≡ differs xs (patch xs lo hi f)
+  part-told {t} e =
+      let d = bytes_eq-Decides (take n (drop lo xs)) zs in
+      elim (true-or (bytes_eq (take n (drop lo xs)) zs)) [
+        | inl g ↦ e ∙ ap not g ∙ kept xs lo hi f (part-each (d.0 g))
+        | inr g ↦ elim (true-or (differs xs (patch xs lo hi f))) [
+          | inl u ↦ e ∙ ap not g ∙ sym u
+          | inr u ↦ (let o = d.1 (part-equal (each_same xs lo hi f fits u)) in absurd (cc (g, o)))
+        ]
+      ]
+
+-- the same where the cells come from the cells of a memory from b on
+pub parts-told : (xs ys : List ℕ) (lo hi b n m : ℕ) (f : ℕ → ℕ) → n ≡ hi - lo → m ≡ hi - lo → lo ≤ hi → hi ≤ length xs → b + (hi - lo) ≤ length ys → ((k : ℕ) → lo ≤ k → k < hi → f k ≡ get_or ys (b + (k - lo)) 0) → {t : Bool} → t ≡ not (bytes_eq (take n (drop lo xs)) (take m (drop b ys))) → t ≡ differs xs (patch xs lo hi f)
+parts-told xs ys lo hi b n m f q r up fits other taken =
+    part-told xs (take m (drop b ys)) lo hi n f q (simp (length-take, length-drop) (omega arith)) up fits (λ k a l. taken k a l ∙ sym (part-at ys b m (k - lo) (omega arith)))
 
 -- where all cells of a patch are as before, so are those of them that pass a test
 cond_same : (t : Bool) {x y : ℕ} → x ≡ y → x ≡ cond t y x

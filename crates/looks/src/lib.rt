@@ -1,7 +1,7 @@
 // What an edit will change, told before it writes: nothing here writes.
 #![tactic(auto)]
 
-ghost use Rattle.std.specs.Prelude.{◌≡◌, ◌+◌, ◌-◌, ◌*◌, ◌/◌, ◌≤◌, ◌<◌, max, length, set, drop};
+ghost use Rattle.std.specs.Prelude.{◌≡◌, ℕ, Bool, false, List, ◌+◌, ◌-◌, ◌*◌, ◌/◌, ◌≤◌, ◌<◌, max, length, get_or, set, drop};
 ghost use Rattle.cells.specs.Memory.{filled, changed_where, moved_up, moved_down};
 ghost use Rattle.fields.specs.Fields.{marks, stripped, unprotected, field_end, target};
 ghost use Rattle.cursor.specs.Cursor.{cell_of};
@@ -70,18 +70,25 @@ fn look_up(chars: &[u8], attrs: &[u8], rows: usize, at: usize, end: u8) -> Chang
     found
 }
 
+// The rows that differ by a test, each asked once, the last row first.
+fn gather<F: Fn(usize) -> bool>(rows: usize, differs: F) -> Changes
+    requires few { rows ≤ 96 }
+    requires callable { (r : ℕ) → r < rows → F.pre differs r }
+    ensures { (l : List Bool) → length l ≡ rows → ((r : ℕ) (on : Bool) → r < rows → F.post differs r on → on ≡ get_or l r false) → result ≡ set_of l }
+{
+    let mut found = Changes::none();
+    for r in (0..rows).rev() {
+        found = found.behind(differs(r));
+    }
+    found
+}
+
 // A blank row enters at row `at`, the rows from there on move down.
 fn look_down(chars: &[u8], attrs: &[u8], rows: usize, at: usize) -> Changes
     requires { (length chars.now ≡ rows * 80) × (length attrs.now ≡ rows * 80) × (rows ≤ 96) × (at < rows) }
     ensures { result ≡ set_of (differing_both rows chars.now attrs.now (moved_down chars.now (at * 80) 32) (moved_down attrs.now (at * 80) 0)) }
 {
-    let mut found = Changes::none();
-    let mut r = rows;
-    while 0 < r {
-        r -= 1;
-        found = found.behind(compare::row_down_differs(chars, attrs, rows, at, r));
-    }
-    found
+    gather(rows, |r| compare::row_down_differs(chars, attrs, rows, at, r))
 }
 
 // All cells from cell `k` on become blank with attribute 0.
@@ -89,13 +96,7 @@ pub fn look_clear(chars: &[u8], attrs: &[u8], rows: usize, k: usize) -> Changes
     requires { (length chars.now ≡ rows * 80) × (length attrs.now ≡ rows * 80) × (rows ≤ 96) }
     ensures { result ≡ set_of (differing_both rows chars.now attrs.now (filled chars.now k (rows * 80) 32) (filled attrs.now k (rows * 80) 0)) }
 {
-    let mut found = Changes::none();
-    let mut r = rows;
-    while 0 < r {
-        r -= 1;
-        found = found.behind(compare::row_clear_differs(chars, attrs, rows, k, r));
-    }
-    found
+    gather(rows, |r| compare::row_clear_differs(chars, attrs, rows, k, r))
 }
 
 // The unprotected cells from cell `k` on become blank without enhancement.
@@ -103,13 +104,7 @@ fn look_wipe(chars: &[u8], attrs: &[u8], rows: usize, k: usize) -> Changes
     requires { (length chars.now ≡ rows * 80) × (length attrs.now ≡ rows * 80) × (rows ≤ 96) }
     ensures { result ≡ set_of (differing_both rows chars.now attrs.now (changed_where chars.now k (unprotected (marks attrs.now)) (λ v. 32)) (changed_where attrs.now k (unprotected (marks attrs.now)) stripped)) }
 {
-    let mut found = Changes::none();
-    let mut r = rows;
-    while 0 < r {
-        r -= 1;
-        found = found.behind(compare::row_wipe_differs(chars, attrs, rows, k, r));
-    }
-    found
+    gather(rows, |r| compare::row_wipe_differs(chars, attrs, rows, k, r))
 }
 
 // ---- the rows that an edit of a page changes

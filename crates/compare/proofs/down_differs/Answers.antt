@@ -1,7 +1,7 @@
 -- `compare::down_differs` meets its contract, by the place of the row. Assumes nothing.
 use mathlib.Core.Path.{◌∙◌}
 use native.Mathlib.Omega.{arith}
-use Rattle.compare.proofs.Moves.{down-above, down-here, down-under, down-first}
+use Rattle.compare.proofs.Moves.{down-above, down-here, down-under}
 use Rattle.compare.proofs.down_differs.Goals as goal
 
 pub returns-then-r-at : goal.returns-then-r-at
@@ -15,12 +15,6 @@ returns-then-r-at-2 c =
     let a = c.args in
     let p = c.requires in
     c.fill_differs.ensures ∙ down-here a.rows a.r a.at a.s.now p.3 p.0 p.2 a.v (omega arith)
-
-pub returns-then-s-first : goal.returns-then-s-first
-returns-then-s-first c =
-    let a = c.args in
-    let p = c.requires in
-    down-first a.rows a.r a.at a.s.now p.3 p.0 p.2 a.v (omega arith) c.if-s-first.true
 
 pub returns : goal.returns
 returns c =

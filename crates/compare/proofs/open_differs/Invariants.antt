@@ -1,6 +1,6 @@
 -- `compare::open_differs` meets its contract: the loop's invariant is `Alike` of both memories, and `kind` with cell `i`'s mark gives its kind.
 -- Assumes nothing.
-use Prim.Native.Nat.{ℕ, ◌-◌, ◌≤◌}
+use Prim.Native.Nat.{ℕ}
 use mathlib.Core.Bool.{cond}
 use mathlib.Core.List.{List}
 use lib.ListN.{get_or}
@@ -17,7 +17,4 @@ blanked chars attrs k = cond (unprotected (marks attrs) k) 32 (get_or chars k 0)
 
 abbrev pub invariant-loop-i : goal.invariant-loop-i
 invariant-loop-i l =
-    (l.from ≤ l.i) × (l.i ≤ l.to) × Onward l.attrs l.i l.kind × Alike l.chars l.from l.i (blanked l.chars l.attrs) × Alike l.attrs l.from l.i (bared l.attrs)
-
-abbrev pub decreases-loop-i : goal.decreases-loop-i
-decreases-loop-i l = l.to - l.i
+    Onward l.attrs l.i l.kind × Alike l.chars l.from l.i (blanked l.chars l.attrs) × Alike l.attrs l.from l.i (bared l.attrs)

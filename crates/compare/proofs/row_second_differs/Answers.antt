@@ -6,8 +6,8 @@ use Rattle.changes.proofs.Differing.{or-second}
 use Rattle.compare.proofs.Moves.{up-copy}
 use Rattle.compare.proofs.row_second_differs.Goals as goal
 
-pub returns : goal.returns
-returns c =
+pub returns-else-second_differs : goal.returns-else-second_differs
+returns-else-second_differs c =
     λ at h.
     let a = c.args in
     let p = c.requires in

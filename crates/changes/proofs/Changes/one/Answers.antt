@@ -1,16 +1,11 @@
--- `changes::Changes::one` meets its contract. Assumes nothing.
-use Prim.Native.Nat.{◌-◌}
+-- `changes::Changes::one` meets its contract, by the word that has the row. Assumes nothing.
 use native.Mathlib.Omega.{arith}
-use borrow.Author.Tests.{not-true, not-false}
-use Rattle.changes.proofs.Sets.{by-words, only_none}
-use Rattle.changes.proofs.Words.{none-words, one-low, one-high, shifted}
+use Rattle.changes.proofs.Sets.{by-words}
+use Rattle.changes.proofs.Words.{as_digit, one-low, one-high}
 use Rattle.changes.proofs.Changes.one.Goals as goal
 
-pub returns-then-not-on : goal.returns-then-not-on
-returns-then-not-on c = let a = c.args in λ n h. by-words _ (rw (c.if-not-on.true, only_none n a.row) (none-words n))
-
 pub returns-then-row-lt64 : goal.returns-then-row-lt64
-returns-then-row-lt64 c = let a = c.args in λ n h. by-words _ (rw (c.if-not-on.false, shifted a.row c.if-row-lt64.true) (one-low n a.row h c.if-row-lt64.true))
+returns-then-row-lt64 c = let a = c.args in λ n h. by-words _ (rw (as_digit a.on) (one-low n a.row a.on h c.if-row-lt64.true))
 
 pub returns : goal.returns
-returns c = let a = c.args in λ n h. by-words _ (rw (c.if-not-on.false, shifted (a.row - 64) (omega arith)) (one-high n a.row h (omega arith)))
+returns c = let a = c.args in λ n h. by-words _ (rw (as_digit a.on) (one-high n a.row a.on h (omega arith) (omega arith)))

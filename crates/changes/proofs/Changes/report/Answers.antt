@@ -15,5 +15,5 @@ returns-then-self-ne0 c = let a = c.args in ap₂ both (report-count a.rows a.se
 pub returns-then-self-ne0-2 : goal.returns-then-self-ne0-2
 returns-then-self-ne0-2 c = let a = c.args in ap₂ both (report-count a.rows a.self c.requires.1) (report-high a.rows a.self c.requires.1 c.if-self-ne0.false (omega (arith, c.if-self-ne0-2.true)) (omega (arith, c.requires.0)))
 
-pub returns : goal.returns
-returns c = let a = c.args in ap₂ both (report-count a.rows a.self c.requires.1) (report-none a.rows a.self c.requires.1 c.if-self-ne0.false c.if-self-ne0-2.false)
+pub returns-else-self-ne0-2 : goal.returns-else-self-ne0-2
+returns-else-self-ne0-2 c = let a = c.args in ap₂ both (report-count a.rows a.self c.requires.1) (report-none a.rows a.self c.requires.1 c.if-self-ne0.false c.if-self-ne0-2.false)
