@@ -1,110 +1,123 @@
 // What stands behind the last record of a file: the terminal, or why the file could not be read.
 #![tactic(auto)]
 
-ghost use Rattle.std.specs.Prelude.{◌≡◌, cond, ◌≤◌};
+ghost use Rattle.std.specs.Prelude.{◌≡◌, ◌≤◌};
+ghost use Rattle.endings.specs.Sizes.{size_rows};
 
-use printing::{Output, Page};
-use std::io::{Error, Stderr};
+use printing::Output;
+use std::fmt;
+use std::fmt::{Display, Formatter};
+use std::io::Error;
 use terminal::Terminal;
 
-// What a file is asked for: the lines of a session; or a terminal to be shown after session records, or after a host stream, as a picture, or raw for scripts; or
-// the rows that each session record changes; of a terminal of 96 rows, or of 48. The lines of a session are the same by the plain reader of host bytes.
-#[derive(Clone, Copy)]
-pub struct Way {
-    pub is_session: bool,
-    pub is_host: bool,
-    pub is_raw: bool,
-    pub is_changes: bool,
-    pub is_48: bool,
-    pub is_plain: bool,
+// A file of records or a host stream.
+#[derive(Clone, Copy, PartialEq, Eq)]
+pub enum Source {
+    Records,
+    Host,
 }
 
-impl Way {
-    // The number of rows of the terminal's memory.
+// How a terminal is shown: as a picture, or in lines for scripts.
+#[derive(Clone, Copy, PartialEq, Eq)]
+pub enum Shown {
+    Picture,
+    Listing,
+}
+
+// What a file is asked for: the lines of a session, which are the same by the plain reader of host bytes; a terminal to be shown behind the file; or the rows that each
+// session record changes.
+#[derive(Clone, Copy, PartialEq, Eq)]
+pub enum Task {
+    Lines { is_plain: bool },
+    Show(Source, Shown),
+    Changes,
+}
+
+// The two sizes of a terminal's memory.
+#[derive(Clone, Copy, PartialEq, Eq)]
+pub enum Size {
+    Rows48,
+    Rows96,
+}
+
+impl Size {
+    // The number of rows.
     pub fn rows(self) -> usize
-        ensures value { result ≡ cond self.is_48 48 96 }
+        ensures value { result ≡ size_rows self }
         ensures lower_bound { (24 ≤ result) × (result ≤ 96) }
     {
-        if self.is_48 { 48 } else { 96 }
+        match self {
+            Size::Rows48 => 48,
+            Size::Rows96 => 96,
+        }
+    }
+}
+
+// What a file is asked for, of a terminal of which size.
+#[derive(Clone, Copy, PartialEq, Eq)]
+pub struct Way {
+    pub task: Task,
+    pub size: Size,
+}
+
+// A record of which the input has only the first bytes: its number, and how many they are.
+#[derive(Clone, Copy, PartialEq, Eq)]
+pub struct Rest {
+    pub number: u64,
+    pub size: usize,
+}
+
+impl Display for Rest {
+    fn fmt<W: fmt::Write>(&self, f: &mut Formatter<W>) -> fmt::Result {
+        let Rest { number, size } = *self;
+        write!(
+            f,
+            "12: the input ends inside record {number}, after {size} of 84 bytes"
+        )
     }
 }
 
 // A file that cannot be read to its end has no end line, no picture and no state. The line of replies to a host stream ends.
-pub fn break_off(out: Output, page: &mut Page, way: Way, name: &[u8], error: &Error) -> Output {
-    let out = printing::either(out, page, way.is_host && way.is_raw, b"\n", b"");
-    tell(out, page, name, error)
+pub fn break_off(out: &mut Output, task: Task, name: &[u8], error: &Error) {
+    if task == Task::Show(Source::Host, Shown::Listing) {
+        out.text(b"\n");
+    }
+    out.fail(name, error);
 }
 
-// The picture, or the lines for scripts; before them that the input ends inside a record, of which `rest` bytes are there. Behind the rows that the records change
-// stands nothing more.
+// The picture, or the lines for scripts; before them that the input ends inside a record, of which a host stream has none. Behind the rows that the records change
+// stands nothing more, and the end line of a session is not printed here.
 pub fn finish(
-    out: Output,
-    page: &mut Page,
-    t: Terminal,
+    out: &mut Output,
+    t: &Terminal,
     chars: &[u8],
     attrs: &[u8],
-    way: Way,
-    number: u64,
-    rest: usize,
+    task: Task,
+    rest: Option<Rest>,
     name: &[u8],
-) -> Output {
-    if way.is_raw {
-        let out = end_replies(out, page, way.is_host, number, rest, name);
-        return listing::print(out, page, t, way.rows(), chars, attrs);
+) {
+    match task {
+        Task::Lines { .. } => {}
+        Task::Changes => tell_rest(out, rest, name),
+        Task::Show(source, Shown::Listing) => {
+            match source {
+                Source::Records => tell_rest(out, rest, name),
+                Source::Host => out.text(b"\n"),
+            }
+            listing::print(out, t, chars, attrs);
+        }
+        Task::Show(source, Shown::Picture) => {
+            if let (Source::Records, Some(rest)) = (source, rest) {
+                writeln!(out, "{rest}");
+            }
+            picture::print(out, t, chars, attrs);
+        }
     }
-    if way.is_changes {
-        return end_lines(out, page, number, rest, name);
-    }
-    let out = print_rest(out, page, way.is_host, number, rest);
-    picture::print(out, page, t, way.rows(), chars, attrs)
-}
-
-// That the input ends inside a record. A host stream has none.
-fn print_rest(out: Output, page: &mut Page, is_host: bool, number: u64, rest: usize) -> Output {
-    if is_host || rest == 0 {
-        return out;
-    }
-    let out = printing::text(out, page, b"12: the input ends inside record ");
-    let out = printing::number(out, page, number);
-    let out = printing::named(out, page, b", after ", rest);
-    printing::text(out, page, b" of 84 bytes\n")
-}
-
-// The line of replies to a host stream ends; those to records end by themselves.
-fn end_replies(
-    out: Output,
-    page: &mut Page,
-    is_host: bool,
-    number: u64,
-    rest: usize,
-    name: &[u8],
-) -> Output {
-    if is_host {
-        return printing::text(out, page, b"\n");
-    }
-    end_lines(out, page, number, rest, name)
 }
 
 // That the input ends inside a record is told on standard error, behind the lines of the records.
-fn end_lines(out: Output, page: &mut Page, number: u64, rest: usize, name: &[u8]) -> Output {
-    if rest == 0 {
-        return out;
+fn tell_rest(out: &mut Output, rest: Option<Rest>, name: &[u8]) {
+    if let Some(rest) = rest {
+        out.tell(name, rest);
     }
-    let out = printing::send(out, page);
-    if out.is_well {
-        tell_rest(out.stderr, number, rest, name);
-    }
-    out
-}
-
-fn tell_rest(stderr: Stderr, number: u64, rest: usize, name: &[u8]) {
-    let _ = stderr.write_all(name);
-    let _ = eprintln!(stderr;
-        ": 12: the input ends inside record {number}, after {rest} of 84 bytes"
-    );
-}
-
-// Tells on standard error why a file cannot be read, behind what was printed before it.
-pub fn tell(out: Output, page: &Page, name: &[u8], error: &Error) -> Output {
-    inputs::tell(out, page, name, error)
 }

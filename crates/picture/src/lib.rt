@@ -1,223 +1,101 @@
 // The terminal as a picture in text: the state in words, then the rows with their fields and enhancements, the cursor and the window.
 #![tactic(auto)]
 
-ghost use Rattle.std.specs.Prelude.{◌≤◌, ◌<◌};
+ghost use Rattle.std.specs.Prelude.{◌≤◌};
 
 use cursor::Cursor;
-use printing::{Output, Page};
+use printing::Output;
+use std::array;
 use terminal::Terminal;
 
-// The whole picture, of a memory of `rows` rows.
-pub fn print(
-    out: Output,
-    page: &mut Page,
-    t: Terminal,
-    rows: usize,
-    chars: &[u8],
-    attrs: &[u8],
-) -> Output
-    requires { rows ≤ 96 }
-{
-    let out = listing::words::print(out, page, t);
-    print_rows(out, page, t.cursor, rows, chars, attrs)
-}
+// A row's characters, attributes, or what is printed of it.
+type Row = [u8; 80];
 
-// The rows of the memory. Blank rows that hold neither a field nor the cursor are counted and left out.
-fn print_rows(
-    out: Output,
-    page: &mut Page,
-    cursor: Cursor,
-    rows: usize,
-    chars: &[u8],
-    attrs: &[u8],
-) -> Output
-    requires { rows ≤ 96 }
-{
-    let mut o = print_ruler(out, page);
-    let mut left_out = 0;
-    for row in 0..rows {
-        if is_left_out(row, cursor.row, chars, attrs) {
-            left_out += 1;
-        } else {
-            o = print_left_out(o, page, left_out);
-            left_out = 0;
-            o = print_row(o, page, row, cursor, chars, attrs);
-        }
-    }
-    print_left_out(o, page, left_out)
+// The whole picture.
+pub fn print(out: &mut Output, t: &Terminal, chars: &[u8], attrs: &[u8]) {
+    listing::words::print(out, t);
+    print_ruler(out);
+    print_rows(out, t.cursor, chars, attrs);
 }
 
 // The columns' tens and units.
-fn print_ruler(out: Output, page: &mut Page) -> Output {
-    let out = printing::text(
-        out,
-        page,
-        b"       0         1         2         3         4         5         6         7\n",
-    );
-    printing::text(
-        out,
-        page,
+fn print_ruler(out: &mut Output) {
+    out.text(b"       0         1         2         3         4         5         6         7\n");
+    out.text(
         b"       01234567890123456789012345678901234567890123456789012345678901234567890123456789\n",
-    )
+    );
 }
 
-fn print_left_out(out: Output, page: &mut Page, rows: usize) -> Output {
-    if 0 < rows {
-        let out = printing::named(out, page, b"       (", rows);
-        return printing::either(out, page, rows == 1, b" blank row)\n", b" blank rows)\n");
-    }
-    out
-}
-
-// Whether a row has blanks alone, no mark and not the cursor.
-fn is_left_out(row: usize, cursor: usize, chars: &[u8], attrs: &[u8]) -> bool
-    requires { row < 96 }
-{
-    if row == cursor {
-        return false;
-    }
-    for col in 0..80 {
-        if !is_empty(row * 80 + col, chars, attrs) {
-            return false;
+// The rows of the memory. Blank rows that hold neither a field nor the cursor are counted and left out.
+fn print_rows(out: &mut Output, cursor: Cursor, chars: &[u8], attrs: &[u8]) {
+    let (chars, _) = chars.as_chunks::<80>();
+    let (attrs, _) = attrs.as_chunks::<80>();
+    let mut left_out = 0;
+    for (row, (chars, attrs)) in chars.iter().zip(attrs).enumerate() {
+        if row != cursor.row && is_empty(chars, attrs) {
+            left_out += 1;
+        } else {
+            print_left_out(out, left_out);
+            left_out = 0;
+            print_row(out, row, cursor, chars, attrs);
         }
     }
-    true
+    print_left_out(out, left_out);
 }
 
-fn is_empty(cell: usize, chars: &[u8], attrs: &[u8]) -> bool {
-    if cell < chars.len() {
-        if cell < attrs.len() {
-            return chars[cell] == 32 && attrs[cell] == 0;
-        }
+// Whether a row has blanks alone and no mark.
+fn is_empty(chars: &Row, attrs: &Row) -> bool {
+    *chars == [b' '; 80] && *attrs == [0; 80]
+}
+
+fn print_left_out(out: &mut Output, rows: usize) {
+    match rows {
+        0 => {}
+        1 => writeln!(out, "       (1 blank row)"),
+        _ => writeln!(out, "       ({rows} blank rows)"),
     }
-    true
 }
 
 // The row's number, behind `>` where the window shows it, its cells, the letters of its fields and of its enhancements, and `^` under the cursor.
-fn print_row(
-    out: Output,
-    page: &mut Page,
-    row: usize,
-    cursor: Cursor,
-    chars: &[u8],
-    attrs: &[u8],
-) -> Output
-    requires { row < 96 }
-{
-    let out = print_number(out, page, row, is_shown(row, cursor.top));
-    let out = print_cells(out, page, row, chars, attrs);
-    let out = print_letters(out, page, row, attrs, false);
-    let out = print_letters(out, page, row, attrs, true);
-    print_pointer(out, page, row, cursor)
+fn print_row(out: &mut Output, row: usize, cursor: Cursor, chars: &Row, attrs: &Row) {
+    let mark = if is_shown(row, cursor.top) { '>' } else { ' ' };
+    let faces: Row = array::from_fn(|col| face(chars[col], fields::is_unprotected(attrs, col)));
+    let kinds: Row = array::from_fn(|col| kind_letter(fields::kind_at(attrs, col)));
+    write!(out, "{mark} {row:2}  |");
+    out.text(&faces);
+    out.text(b"|\n");
+    print_below(out, &kinds);
+    print_below(out, &attrs.map(enhancement_letter));
+    if row == cursor.row {
+        let pointer: Row = array::from_fn(|col| if col == cursor.col { b'^' } else { b' ' });
+        print_below(out, &pointer);
+    }
 }
 
 // Whether the window shows a row.
 fn is_shown(row: usize, top: usize) -> bool {
-    if top <= row {
-        return row - top < 24;
-    }
-    false
+    top <= row && row - top < 24
 }
 
-fn print_number(out: Output, page: &mut Page, row: usize, is_shown: bool) -> Output {
-    let out = printing::either(out, page, is_shown, b"> ", b"  ");
-    if row < 10 {
-        return printing::named(out, page, b" ", row);
+// A line below a row's cells, where it has any letter.
+fn print_below(out: &mut Output, line: &Row) {
+    if *line != [b' '; 80] {
+        out.text(b"       ");
+        out.text(line);
+        out.text(b"\n");
     }
-    printing::named(out, page, b"", row)
-}
-
-fn print_cells(out: Output, page: &mut Page, row: usize, chars: &[u8], attrs: &[u8]) -> Output
-    requires { row < 96 }
-{
-    let mut line = [32u8; 80];
-    for col in 0..80 {
-        line[col] = face_of(row * 80 + col, chars, attrs);
-    }
-    print_line(out, page, b"  |", &line, b"|\n")
-}
-
-// The letters of the row's fields, or those of its enhancements, where it has any.
-fn print_letters(
-    out: Output,
-    page: &mut Page,
-    row: usize,
-    attrs: &[u8],
-    of_enhancements: bool,
-) -> Output
-    requires { row < 96 }
-{
-    let mut line = [32u8; 80];
-    let mut some = false;
-    for col in 0..80 {
-        let letter = letter_of(row * 80 + col, attrs, of_enhancements);
-        line[col] = letter;
-        if letter != 32 {
-            some = true;
-        }
-    }
-    if some {
-        return print_line(out, page, b"       ", &line, b"\n");
-    }
-    out
-}
-
-// `^` in the cursor's column, below its row.
-fn print_pointer(out: Output, page: &mut Page, row: usize, cursor: Cursor) -> Output {
-    if row != cursor.row {
-        return out;
-    }
-    let mut line = [32u8; 80];
-    let col = cursor.col;
-    if col < 80 {
-        line[col] = b'^';
-    }
-    print_line(out, page, b"       ", &line, b"\n")
-}
-
-fn print_line(
-    out: Output,
-    page: &mut Page,
-    before: &[u8],
-    line: &[u8; 80],
-    after: &[u8],
-) -> Output {
-    let out = printing::text(out, page, before);
-    let out = printing::text(out, page, line);
-    printing::text(out, page, after)
 }
 
 // What a cell looks like: its character, `_` for a blank of an unprotected field, `?` for a byte that has no character.
-fn face_of(cell: usize, chars: &[u8], attrs: &[u8]) -> u8 {
-    if cell < chars.len() {
-        if cell < attrs.len() {
-            return face(chars[cell], fields::is_unprotected(attrs, cell));
-        }
-    }
-    b'?'
-}
-
 fn face(v: u8, is_unprotected: bool) -> u8 {
-    if v == 32 && is_unprotected {
-        return b'_';
+    match v {
+        b' ' if is_unprotected => b'_',
+        b' '..=b'~' => v,
+        _ => b'?',
     }
-    if 32 <= v && v < 127 {
-        return v;
-    }
-    b'?'
 }
 
-// The letter of a cell's field or of its enhancement, a blank where it has none.
-fn letter_of(cell: usize, attrs: &[u8], of_enhancements: bool) -> u8 {
-    if cell < attrs.len() {
-        if of_enhancements {
-            return enhancement_letter(attrs[cell]);
-        }
-        return kind_letter(fields::kind_at(attrs, cell));
-    }
-    b' '
-}
-
+// The letter of a kind of field, a blank for none.
 fn kind_letter(kind: u8) -> u8 {
     match kind {
         1 => b'a',
@@ -228,10 +106,10 @@ fn kind_letter(kind: u8) -> u8 {
     }
 }
 
-// A to O, the letter that the host sets the enhancement with.
+// A to O, the letter that the host sets the enhancement with, a blank for none.
 fn enhancement_letter(a: u8) -> u8 {
-    if a < 16 {
-        return b' ';
+    match a / 16 {
+        0 => b' ',
+        n => b'@' + n,
     }
-    64 + a / 16
 }

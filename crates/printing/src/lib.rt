@@ -1,147 +1,120 @@
-// Text on its way to standard output: it waits in a lent array, the page, and goes out when that is full or is sent.
+// Text on its way to standard output: it waits on a page, and goes out when that is full or is sent.
 #![tactic(auto)]
 
-mod failing;
+mod reason;
 
-ghost use Rattle.std.specs.Prelude.{◌≡◌, ◌+◌, ◌≤◌, length};
+ghost use Rattle.std.specs.Prelude.{◌≤◌};
 
-pub use failing::fail;
-use std::io::{Stderr, Stdout};
+use reason::Reason;
+use std::fmt;
+use std::fmt::Display;
+use std::io::{Error, Result, Stderr, Stdout};
 
-// Where text waits: some kilobytes.
-pub type Page = [u8; 8192];
-
-// How many bytes wait on the page, whether every write so far was taken, where the text goes, and where a failure is told. After a write that failed nothing more is
+// The page, at whose start bytes wait, whether every write so far was taken, where the text goes, and where a failure is told. After a write that failed nothing more is
 // written.
-#[derive(Clone, Copy)]
+#[derive(Drop)]
 pub struct Output {
-    pub waiting: usize,
-    pub is_well: bool,
-    pub stdout: Stdout,
-    pub stderr: Stderr,
+    page: [u8; 8192],
+    waiting: usize,
+    is_well: bool,
+    stdout: Stdout,
+    stderr: Stderr,
+    ghost fits: { waiting ≤ 8192 },
 }
 
-// Nothing waits, nothing failed.
-pub fn nothing(stdout: Stdout, stderr: Stderr) -> Output {
-    Output {
-        waiting: 0,
-        is_well: true,
-        stdout: stdout,
-        stderr: stderr,
-    }
-}
-
-// Writes what waits. A write that fails is told on standard error.
-pub fn send(out: Output, page: &Page) -> Output {
-    send_first(out, page)
-}
-
-// Writes the waiting bytes at the page's start.
-fn send_first(out: Output, page: &[u8]) -> Output
-    ensures { result.waiting ≡ 0 }
-{
-    let n = out.waiting;
-    if out.is_well {
-        if n <= page.len() {
-            return write(out, &page[0..n]);
+impl Output {
+    // Nothing waits, nothing failed.
+    pub fn new(stdout: Stdout, stderr: Stderr) -> Output {
+        Output {
+            page: [0; 8192],
+            waiting: 0,
+            is_well: true,
+            stdout,
+            stderr,
         }
     }
-    Output {
-        waiting: 0,
-        is_well: false,
-        ..out
-    }
-}
 
-// Writes bytes at once.
-fn write(out: Output, bytes: &[u8]) -> Output
-    ensures { result.waiting ≡ 0 }
-{
-    let is_well = match out.stdout.write_all(bytes) {
-        Ok(()) => true,
-        Err(error) => {
-            fail(out.stderr, b"the output could not be written", &error);
-            false
+    // Whether every write so far was taken.
+    pub fn is_well(&self) -> bool {
+        self.is_well
+    }
+
+    // Writes what waits. A write that fails is told on standard error.
+    pub fn send(&mut self) {
+        let n = self.waiting;
+        self.waiting = 0;
+        if self.is_well {
+            let answer = self.stdout.write_all(&self.page[..n]);
+            self.settle(answer);
         }
-    };
-    Output {
-        waiting: 0,
-        is_well: is_well,
-        ..out
+    }
+
+    // Bytes as they are. More than a page of them are written at once.
+    pub fn text(&mut self, bytes: &[u8]) {
+        let n = bytes.len();
+        if 8192 - self.waiting < n {
+            self.send();
+        }
+        let start = self.waiting;
+        if n <= 8192 - start {
+            self.waiting = start + n;
+            self.page[start..start + n].copy_from_slice(bytes);
+        } else if self.is_well {
+            let answer = self.stdout.write_all(bytes);
+            self.settle(answer);
+        }
+    }
+
+    // What a write answered: a failure is told, and is the last.
+    fn settle(&mut self, answer: Result<()>) {
+        if let Err(error) = answer {
+            self.is_well = false;
+            complain(
+                self.stderr,
+                b"the output could not be written",
+                Reason(&error),
+            );
+        }
+    }
+
+    // A format's text, as `write!` asks for it. It has no answer, since a failure is told where it happens.
+    pub fn write_fmt<D: Display + Drop>(&mut self, text: D) {
+        let _ = fmt::Write::write(self, text);
+    }
+
+    // Bytes in lower-case hexadecimal, by a table of its digits: `{:02x}` takes five times as long.
+    pub fn hex(&mut self, bytes: &[u8]) {
+        let digits = b"0123456789abcdef";
+        for byte in bytes {
+            let high = digits[(byte / 16) as usize];
+            let low = digits[(byte % 16) as usize];
+            self.text(&[high, low]);
+        }
+    }
+
+    // Tells on standard error why a file cannot be read, behind what was printed before it.
+    pub fn tell<D: Display + Drop>(&mut self, name: &[u8], why: D) {
+        self.send();
+        if self.is_well {
+            complain(self.stderr, name, why);
+        }
+    }
+
+    // The same of an error that a read gave.
+    pub fn fail(&mut self, name: &[u8], error: &Error) {
+        self.tell(name, Reason(error));
     }
 }
 
-// Bytes as they are. More than a page of them are written at once.
-pub fn text(out: Output, page: &mut Page, bytes: &[u8]) -> Output {
-    let n = bytes.len();
-    if n <= page.len() {
-        return put(out, page, bytes);
-    }
-    let sent = send(out, page);
-    if sent.is_well {
-        return write(sent, bytes);
-    }
-    sent
-}
-
-// At most a page of bytes, on the page.
-fn put(out: Output, page: &mut [u8], bytes: &[u8]) -> Output
-    requires { length bytes.now ≤ length page.old }
-{
-    let n = bytes.len();
-    let waiting = out.waiting;
-    if waiting <= page.len() - n {
-        copy(page, waiting, bytes);
-        return Output {
-            waiting: waiting + n,
-            ..out
-        };
-    }
-    let sent = send_first(out, page);
-    copy(page, 0, bytes);
-    Output { waiting: n, ..sent }
-}
-
-fn copy(page: &mut [u8], at: usize, bytes: &[u8])
-    requires { at + length bytes.now ≤ length page.old }
-{
-    for i in 0..bytes.len() {
-        page[at + i] = bytes[i];
+impl fmt::Write for Output {
+    fn write_str(&mut self, s: &str) -> fmt::Result {
+        self.text(s.as_bytes());
+        Ok(())
     }
 }
 
-// A number in decimal.
-pub fn number(out: Output, page: &mut Page, n: u64) -> Output {
-    let mut digits = [0u8; 20];
-    let size = io::decimal(n, &mut digits);
-    text(out, page, &digits[..size])
-}
-
-// A word and a number after it.
-pub fn named(out: Output, page: &mut Page, word: &[u8], n: usize) -> Output {
-    let out = text(out, page, word);
-    number(out, page, n as u64)
-}
-
-// `yes` or `no` as the two words given.
-pub fn either(out: Output, page: &mut Page, is_so: bool, yes: &[u8], no: &[u8]) -> Output {
-    if is_so {
-        return text(out, page, yes);
-    }
-    text(out, page, no)
-}
-
-// The character of a digit below 16.
-fn hex_digit(n: u8) -> u8 {
-    if n < 10 { 48 + n } else { 87 + n % 16 }
-}
-
-// Bytes in lower-case hexadecimal.
-pub fn hex(out: Output, page: &mut Page, bytes: &[u8]) -> Output {
-    let mut o = out;
-    for i in 0..bytes.len() {
-        let b = bytes[i];
-        o = text(o, page, &[hex_digit(b / 16), hex_digit(b % 16)]);
-    }
-    o
+// Writes a line to standard error: what failed, as the caller names it, a colon and why.
+fn complain<D: Display + Drop>(stderr: Stderr, what: &[u8], why: D) {
+    let _ = stderr.write_all(what);
+    let _ = eprintln!(stderr; ": {why}");
 }

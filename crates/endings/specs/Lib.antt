@@ -1,0 +1,2 @@
+-- The definitions of what a file is asked for.
+pub mod Sizes
