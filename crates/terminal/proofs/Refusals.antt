@@ -2,6 +2,7 @@
 use Prim.Native.Nat.{ℕ}
 use mathlib.Core.Path.{◌≡◌, refl, sym}
 use mathlib.Core.Bool.{Bool, true, false, cond, not}
+use native.Mathlib.Omega.{arith}
 use Rattle.std.specs.Prelude.{List, [], ◌∷◌}
 use Rattle.terminal.specs.declared.refusal.Refusal.{Refusal}
 use Rattle.terminal.specs.declared.refusal.Refusal.TheVariants.{Size, State, Key, Barred, Target, Character, Room, Format, Field, Length, Form, Part, Owner}
@@ -16,26 +17,26 @@ passed false h e = (refl, e)
 
 -- no refusal has the number 0
 pub not-done : (e : Refusal) → number_of e ≡ 0 → ⊥
-not-done Size ()
-not-done State ()
-not-done Key ()
-not-done Barred ()
-not-done Target ()
-not-done Character ()
-not-done Room ()
-not-done Format ()
-not-done Field ()
-not-done Length ()
-not-done Form ()
-not-done Part ()
-not-done Owner ()
+not-done Size e = omega arith
+not-done State e = omega arith
+not-done Key e = omega arith
+not-done Barred e = omega arith
+not-done Target e = omega arith
+not-done Character e = omega arith
+not-done Room e = omega arith
+not-done Format e = omega arith
+not-done Field e = omega arith
+not-done Length e = omega arith
+not-done Form e = omega arith
+not-done Part e = omega arith
+not-done Owner e = omega arith
 
 -- where the first two tests come to 0, what they ask for is so
 pub opened : (a b : Bool) → 0 ≡ first_refusal ((1 when not a) ∷ (2 when not b) ∷ []) → (a ≡ true) × (b ≡ true)
 unfolding first_refusal
 opened true true e = (refl, refl)
-opened true false ()
-opened false b ()
+opened true false e = absurd (not-done State (sym e))
+opened false b e = absurd (not-done Size (sym e))
 
 -- where they refuse, the whole list does, by the same number
 pub closed : (a b : Bool) (later : List tests.Refusal) (e : Refusal) → number_of e ≡ first_refusal ((1 when not a) ∷ (2 when not b) ∷ []) → number_of e ≡ first_refusal ((1 when not a) ∷ (2 when not b) ∷ later)
