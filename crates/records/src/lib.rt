@@ -8,7 +8,7 @@ ghost use Rattle.streams.specs.Streams.{host_left, fed};
 ghost use Rattle.records.specs.Records.{number_of, zeros, fits_kind, form_refusal, part_left, host_part, key_part, post_part, record_part, ran_left, record_ran};
 
 use streams::HostAnswer;
-use terminal::Terminal;
+use terminal::{Size, Terminal};
 
 // The number, the data byte to go on from, the bytes written to the reply, and the state afterwards.
 #[derive(Clone, Copy)]
@@ -208,8 +208,8 @@ pub fn run_from_on(
     run_post(t, rows, chars, attrs, number, &bytes[4..end], at, reply)
 }
 
-// `run_from_on` in a memory of 96 rows. Takes any state and any buffers.
-pub fn run_from(
+// `run_from_on` in a memory of a size. Takes any state and any buffers.
+pub fn run_from<S: Size>(
     t: Terminal,
     chars: &mut [u8],
     attrs: &mut [u8],
@@ -217,23 +217,9 @@ pub fn run_from(
     at: usize,
     reply: &mut [u8],
 ) -> PartAnswer
-    ensures { part_left result chars.new attrs.new reply.new ≡ record_part 96 (world t chars.old attrs.old) bytes.now at reply.old }
+    ensures { part_left result chars.new attrs.new reply.new ≡ record_part S.size (world t chars.old attrs.old) bytes.now at reply.old }
 {
-    run_from_on(t, 96, chars, attrs, bytes, at, reply, false)
-}
-
-// `run_from` in a memory of 48 rows.
-pub fn run_from_48(
-    t: Terminal,
-    chars: &mut [u8],
-    attrs: &mut [u8],
-    bytes: &[u8],
-    at: usize,
-    reply: &mut [u8],
-) -> PartAnswer
-    ensures { part_left result chars.new attrs.new reply.new ≡ record_part 48 (world t chars.old attrs.old) bytes.now at reply.old }
-{
-    run_from_on(t, 48, chars, attrs, bytes, at, reply, false)
+    run_from_on(t, S::rows(), chars, attrs, bytes, at, reply, false)
 }
 
 // One whole session record: its answer, and its reply bytes added up. `reply` is lent with room for the longest reply; what it holds does not matter.
@@ -275,18 +261,11 @@ pub fn run_on(
     }
 }
 
-// `run_on` in a memory of 96 rows, with a reply buffer of its own. Takes any state and any buffers.
-pub fn run(t: Terminal, chars: &mut [u8], attrs: &mut [u8], bytes: &[u8]) -> RanAnswer
-    ensures { ran_left result chars.new attrs.new ≡ record_ran 96 (world t chars.old attrs.old) bytes.now }
+// `run_on` in a memory of a size, with a reply buffer of its own. Takes any state and any buffers.
+pub fn run<S: Size>(t: Terminal, chars: &mut [u8], attrs: &mut [u8], bytes: &[u8]) -> RanAnswer
+    ensures { ran_left result chars.new attrs.new ≡ record_ran S.size (world t chars.old attrs.old) bytes.now }
 {
+    let rows = S::rows();
     let mut reply = [0u8; 15360];
-    run_on(t, 96, chars, attrs, bytes, &mut reply, false)
-}
-
-// `run` in a memory of 48 rows.
-pub fn run_48(t: Terminal, chars: &mut [u8], attrs: &mut [u8], bytes: &[u8]) -> RanAnswer
-    ensures { ran_left result chars.new attrs.new ≡ record_ran 48 (world t chars.old attrs.old) bytes.now }
-{
-    let mut reply = [0u8; 7680];
-    run_on(t, 48, chars, attrs, bytes, &mut reply, false)
+    run_on(t, rows, chars, attrs, bytes, &mut reply[..rows * 160], false)
 }
