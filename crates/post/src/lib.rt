@@ -9,7 +9,7 @@ ghost use Rattle.post.specs.Posts.{fits, all_fit, post_left, posted_to};
 ghost use Rattle.post.specs.Field.{numbered, entered_if, posted_in_if, posted_if};
 
 use changes::Changes;
-use terminal::Terminal;
+use terminal::{Size, Terminal};
 
 // The number, and the state afterwards: the state before with the row that changed.
 #[derive(Clone, Copy)]
@@ -169,16 +169,9 @@ pub fn post_on(
     post_if(t, rows, chars, attrs, true, field, text)
 }
 
-// A post, in a memory of 96 rows. Takes any state, any buffers, any field number and any text; a refusal changes nothing.
-pub fn post(t: Terminal, chars: &mut [u8], attrs: &[u8], field: usize, text: &[u8]) -> PostAnswer
-    ensures { post_left result chars.new attrs.now ≡ posted_to 96 (world t chars.old attrs.now) field text.now }
+// A post, in a memory of a size. Takes any state, any buffers, any field number and any text; a refusal changes nothing.
+pub fn post<S: Size>(t: Terminal, chars: &mut [u8], attrs: &[u8], field: usize, text: &[u8]) -> PostAnswer
+    ensures { post_left result chars.new attrs.now ≡ posted_to S.size (world t chars.old attrs.now) field text.now }
 {
-    post_on(t, 96, chars, attrs, field, text)
-}
-
-// `post` in a memory of 48 rows.
-pub fn post_48(t: Terminal, chars: &mut [u8], attrs: &[u8], field: usize, text: &[u8]) -> PostAnswer
-    ensures { post_left result chars.new attrs.now ≡ posted_to 48 (world t chars.old attrs.now) field text.now }
-{
-    post_on(t, 48, chars, attrs, field, text)
+    post_on(t, S::rows(), chars, attrs, field, text)
 }

@@ -10,7 +10,7 @@ ghost use Rattle.readers.specs.Owners.{is_table, owns, posted_as, read_left, rea
 ghost use Rattle.readers.specs.Field.{early_refusal, read_in};
 
 use post::PostAnswer;
-use terminal::Terminal;
+use terminal::{Size, Terminal};
 
 // The number, and how many bytes of the text are written.
 #[derive(Clone, Copy)]
@@ -74,9 +74,9 @@ pub fn post_as_on(
     post::post_if(t, rows, chars, attrs, owned, field, text)
 }
 
-// A reader's post, in a memory of 96 rows: as `post`, and 13 unless the reader is 1 or 2 and owns the field. Takes any state, any buffers, any owner table, any reader and field
+// A reader's post, in a memory of a size: as `post`, and 13 unless the reader is 1 or 2 and owns the field. Takes any state, any buffers, any owner table, any reader and field
 // number and any text; a refusal changes nothing.
-pub fn post_as(
+pub fn post_as<S: Size>(
     t: Terminal,
     chars: &mut [u8],
     attrs: &[u8],
@@ -85,24 +85,9 @@ pub fn post_as(
     field: usize,
     text: &[u8],
 ) -> PostAnswer
-    ensures { post_left result chars.new attrs.now ≡ posted_as 96 (world t chars.old attrs.now) owners.now reader field text.now }
+    ensures { post_left result chars.new attrs.now ≡ posted_as S.size (world t chars.old attrs.now) owners.now reader field text.now }
 {
-    post_as_on(t, 96, chars, attrs, owners, reader, field, text)
-}
-
-// `post_as` in a memory of 48 rows.
-pub fn post_as_48(
-    t: Terminal,
-    chars: &mut [u8],
-    attrs: &[u8],
-    owners: &[u8],
-    reader: u8,
-    field: usize,
-    text: &[u8],
-) -> PostAnswer
-    ensures { post_left result chars.new attrs.now ≡ posted_as 48 (world t chars.old attrs.now) owners.now reader field text.now }
-{
-    post_as_on(t, 48, chars, attrs, owners, reader, field, text)
+    post_as_on(t, S::rows(), chars, attrs, owners, reader, field, text)
 }
 
 // Whether the state lets a field be read back: with format on. Host lock and a pending transfer do not bar it.
@@ -196,10 +181,10 @@ pub fn read_back_on(
     }
 }
 
-// What stands in a field that the reader owns, in a memory of 96 rows: the field whole, blanks too, from the first byte of `out` on, and the room beyond it unchanged. It changes
+// What stands in a field that the reader owns, in a memory of a size: the field whole, blanks too, from the first byte of `out` on, and the room beyond it unchanged. It changes
 // neither state nor memory, and may be asked for while host lock is on or a transfer is pending. Takes any state, any buffers, any owner table, any reader and field number; a
 // refusal writes nothing.
-pub fn read_back(
+pub fn read_back<S: Size>(
     t: Terminal,
     chars: &[u8],
     attrs: &[u8],
@@ -208,22 +193,7 @@ pub fn read_back(
     field: usize,
     out: &mut [u8],
 ) -> ReadAnswer
-    ensures { read_left result out.new ≡ read_back_of 96 (world t chars.now attrs.now) owners.now reader field out.old }
+    ensures { read_left result out.new ≡ read_back_of S.size (world t chars.now attrs.now) owners.now reader field out.old }
 {
-    read_back_on(t, 96, chars, attrs, owners, reader, field, out)
-}
-
-// `read_back` in a memory of 48 rows.
-pub fn read_back_48(
-    t: Terminal,
-    chars: &[u8],
-    attrs: &[u8],
-    owners: &[u8],
-    reader: u8,
-    field: usize,
-    out: &mut [u8],
-) -> ReadAnswer
-    ensures { read_left result out.new ≡ read_back_of 48 (world t chars.now attrs.now) owners.now reader field out.old }
-{
-    read_back_on(t, 48, chars, attrs, owners, reader, field, out)
+    read_back_on(t, S::rows(), chars, attrs, owners, reader, field, out)
 }

@@ -4,29 +4,21 @@ use mathlib.Core.Path.{◌≡◌, refl, ap, sym, ◌∙◌}
 use mathlib.Core.Bool.{Bool, true, false, cond, ◌&&◌, not, and-eq-true_iff}
 use mathlib.Core.List.{List, [], ◌∷◌}
 use native.Mathlib.Omega.{arith}
-use native.Mathlib.Numerals.{add-one}
-use lib.ListN.{length, take, drop, get_or, length-take}
-use lib.Seq.{slice, drop-cons, drop-length, take-nil}
+use lib.ListN.{length, take, drop, length-take}
+use lib.Seq.{slice, take-nil}
 use lib.Dec.{leb, ltb, eqb}
+use Rattle.std.specs.List.{list_all}
 use borrow.Author.Tests.{eqb-true, leb-true, eq-eqb, ne_eqb, lt-ltb, le-ltb, le-leb, lt-leb, not-false}
 use Rattle.reading.proofs.Rules.{either}
 use Rattle.terminal.specs.Refusals.{first_refusal}
 use Rattle.terminal.proofs.Refusals.{passed}
 use Rattle.records.specs.Records.{kind_of, length_of, number_of, data_of, zeros, fits_kind, is_formed, form_refusal}
 
--- ---- zeros, at byte i
-module _ (bytes : List ℕ) (i : ℕ) (h : i < length bytes) where
-  pub zeros-on : get_or bytes i 0 ≡ 0 → zeros (drop (i + 1) bytes) ≡ zeros (drop i bytes)
-  unfolding zeros
-  zeros-on e = rw (drop-cons bytes i 0 h, add-one i, eq-eqb (get_or bytes i 0) 0 e)
-
-  pub zeros-stop : (get_or bytes i 0 ≡ 0 → ⊥) → false ≡ zeros (drop i bytes)
-  unfolding zeros
-  zeros-stop n = rw (drop-cons bytes i 0 h, ne_eqb (get_or bytes i 0) 0 n)
-
-pub zeros-end : (bytes : List ℕ) (i : ℕ) → i ≡ length bytes → true ≡ zeros (drop i bytes)
+-- ---- all bytes are 0
+pub zeros-all : (bytes : List ℕ) → zeros bytes ≡ list_all (λ (b : ℕ). eqb b 0) bytes
 unfolding zeros
-zeros-end bytes i e = rw (ap (λ (n : ℕ). drop n bytes) e ∙ drop-length bytes)
+zeros-all [] = refl
+zeros-all (b ∷ bs) = ap (λ (t : Bool). eqb b 0 && t) (zeros-all bs)
 
 -- ---- the tests of a record's form, in their order
 module _ (r : List ℕ) where
@@ -51,11 +43,39 @@ module _ (r : List ℕ) where
     pub oversize : 80 < length_of r → 11 ≡ form_refusal r
     oversize h = by_tests (le-ltb (length r) 84 (omega arith)) (eq-eqb _ _ e) (lt-leb _ _ h) refl refl
 
-    pub unfit : length_of r ≤ 80 → fitting ≡ false → 11 ≡ form_refusal r
-    unfit h f = by_tests (le-ltb (length r) 84 (omega arith)) (eq-eqb _ _ e) (le-leb _ _ h) f refl
+    pub unblank : length_of r ≤ 80 → blank ≡ false → 11 ≡ form_refusal r
+    unblank h z = by fitting refl
+      where
+        by : (f : Bool) → fitting ≡ f → 11 ≡ form_refusal r
+        by true f = by_tests (le-ltb (length r) 84 (omega arith)) (eq-eqb _ _ e) (le-leb _ _ h) f z
+        by false f = by_tests (le-ltb (length r) 84 (omega arith)) (eq-eqb _ _ e) (le-leb _ _ h) f z
 
     pub fit : length_of r ≤ 80 → fitting ≡ true → {z : Bool} → blank ≡ z → cond (not z) 11 0 ≡ form_refusal r
     fit h f z = by_tests (le-ltb (length r) 84 (omega arith)) (eq-eqb _ _ e) (le-leb _ _ h) f z
+
+    pub unfit : length_of r ≤ 80 → fitting ≡ false → 11 ≡ form_refusal r
+    unfit h f = by_tests (le-ltb (length r) 84 (omega arith)) (eq-eqb _ _ e) (le-leb _ _ h) f refl
+
+    pub fits : length_of r ≤ 80 → blank ≡ true → fitting ≡ true → form_refusal r ≡ 0
+    fits h z f = sym (fit h f z)
+
+  -- ---- whether its kind fits its length and its number
+  pub host-fits : kind_of r ≡ 72 → number_of r ≡ 0 → fitting ≡ true
+  host-fits k n = rw (k, n)
+
+  pub key-fits : kind_of r ≡ 75 → length_of r ≡ 0 → fitting ≡ true
+  key-fits k n = rw (k, n)
+
+  pub post-fits : kind_of r ≡ 80 → fitting ≡ true
+  post-fits k = rw k
+
+  pub none-fits : (kind_of r ≡ 72 → number_of r ≡ 0 → ⊥) → (kind_of r ≡ 75 → length_of r ≡ 0 → ⊥) → (kind_of r ≡ 80 → ⊥) → fitting ≡ false
+  none-fits h k p = by (eqb (kind_of r) 72) (eqb (kind_of r) 75) refl refl
+    where
+      by : (a b : Bool) → eqb (kind_of r) 72 ≡ a → eqb (kind_of r) 75 ≡ b → fitting ≡ false
+      by true b e f = rw e (ne_eqb (number_of r) 0 (h (eqb-true _ _ e)))
+      by false true e f = rw (e, f) (ne_eqb (length_of r) 0 (k (eqb-true _ _ f)))
+      by false false e f = rw (e, f) (ne_eqb (kind_of r) 80 p)
 
   -- the number is 0, 11 or 12
   pub eleven : 84 ≤ length r → (form_refusal r ≡ 0 → ⊥) → form_refusal r ≡ 11

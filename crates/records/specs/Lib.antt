@@ -1,2 +1,3 @@
 -- The definitions of session records.
 pub mod Records
+pub mod Forms

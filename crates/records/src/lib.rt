@@ -2,15 +2,17 @@
 // bytes, else the table reads them: what comes out is the same.
 #![tactic(auto)]
 
-ghost use Rattle.std.specs.Prelude.{◌≡◌, ◌+◌, ◌*◌, ◌≤◌, ◌<◌, length, drop};
+ghost use Rattle.std.specs.Prelude.{◌≡◌, ◌==◌, ◌*◌, ◌≤◌, length, drop};
+ghost use Rattle.std.specs.List.{list_all};
 ghost use Rattle.terminal.specs.State.{world};
 ghost use Rattle.streams.specs.Streams.{host_left, fed};
-ghost use Rattle.records.specs.Records.{number_of, zeros, fits_kind, form_refusal, part_left, host_part, key_part, post_part, record_part, ran_left, record_ran};
+ghost use Rattle.records.specs.Records.{number_of, zeros, part_left, host_part, key_part, post_part, record_part, ran_left, record_ran};
+ghost use Rattle.records.specs.Forms.{Says};
 
 use streams::HostAnswer;
-use terminal::Terminal;
+use terminal::{Refusal, Size, Terminal};
 
-// The number, the data byte to go on from, the bytes written to the reply, and the state afterwards.
+// The number, the data byte to go on from, the bytes written to the reply, and the state afterwards. A number stays a byte, as document 01 gives it, and beside it stands what was done.
 #[derive(Clone, Copy)]
 pub struct PartAnswer {
     pub number: u8,
@@ -27,19 +29,27 @@ pub struct RanAnswer {
     pub state: Terminal,
 }
 
+// Whether all bytes are 0.
+fn are_zero(bytes: &[u8]) -> bool
+    ensures { result ≡ list_all (λ b. b == 0) bytes.now }
+{
+    bytes.iter().all(|b| *b == 0)
+}
+
 // Whether all bytes from `from` on are 0.
 pub fn is_zero(bytes: &[u8], from: usize) -> bool
     requires { from ≤ length bytes.now }
     ensures { result ≡ zeros (drop from bytes.now) }
 {
-    let mut i = from;
-    while i < bytes.len() {
-        if bytes[i] != 0 {
-            return false;
-        }
-        i += 1;
-    }
-    true
+    are_zero(&bytes[from..])
+}
+
+// The two bytes of the record's number.
+fn number(bytes: &[u8]) -> u16
+    requires { 4 ≤ length bytes.now }
+    ensures { result ≡ number_of bytes.now }
+{
+    u16::from_le_bytes([bytes[2], bytes[3]])
 }
 
 // The record's number, low byte first.
@@ -47,43 +57,47 @@ pub fn number_of(bytes: &[u8]) -> usize
     requires { 4 ≤ length bytes.now }
     ensures { result ≡ number_of bytes.now }
 {
-    bytes[2] as usize + 256 * (bytes[3] as usize)
+    number(bytes) as usize
 }
 
-// Whether a kind is H with number 0, K with length 0, or P.
-fn fits_kind(kind: u8, size: usize, number: usize) -> bool
-    ensures { result ≡ fits_kind kind size number }
-{
-    if kind == 72 {
-        return number == 0;
-    }
-    if kind == 75 {
-        return size == 0;
-    }
-    kind == 80
+// What a record says: host bytes, a key's code, or a field's number and the text for it.
+enum Record<'a> {
+    Host(&'a [u8]),
+    Key(u16),
+    Post { field: usize, text: &'a [u8] },
 }
 
-// 0 for a well-formed record, 11 for another form, 12 for a part under 84 bytes.
-fn refuse_form(bytes: &[u8]) -> u8
-    ensures { result ≡ form_refusal bytes.now }
+// Reads a record of 84 bytes. Refuses fewer bytes as a part of one, and any other form.
+fn read<'a>(bytes: &'a [u8]) -> Result<Record<'a>, Refusal>
+    ensures { Says bytes.now result }
 {
     if bytes.len() < 84 {
-        return 12;
+        return Err(Refusal::Part);
     }
     if bytes.len() != 84 {
-        return 11;
+        return Err(Refusal::Form);
     }
     let size = bytes[1] as usize;
     if 80 < size {
-        return 11;
+        return Err(Refusal::Form);
     }
-    if !fits_kind(bytes[0], size, number_of(bytes)) {
-        return 11;
+    if !is_zero(bytes, 4 + size) {
+        return Err(Refusal::Form);
     }
-    if is_zero(bytes, 4 + size) { 0 } else { 11 }
+    let number = number(bytes);
+    let text = &bytes[4..4 + size];
+    match bytes[0] {
+        b'H' if number == 0 => Ok(Record::Host(text)),
+        b'K' if size == 0 => Ok(Record::Key(number)),
+        b'P' => Ok(Record::Post {
+            field: number as usize,
+            text: text,
+        }),
+        _ => Err(Refusal::Form),
+    }
 }
 
-// Host bytes, read by either reader.
+// Host bytes, read by either reader: by a flag, since the calls above, which docs/CALLS.md names, are handed it.
 fn feed(
     t: Terminal,
     rows: usize,
@@ -116,14 +130,13 @@ fn run_host(
     requires { (24 ≤ rows) × (rows ≤ 96) }
     ensures { part_left result chars.new attrs.new reply.new ≡ host_part rows (world t chars.old attrs.old) bytes.now at reply.old }
 {
-    let from = cells::least(at, bytes.len());
+    let from = at.min(bytes.len());
     let a = feed(t, rows, chars, attrs, &bytes[from..], reply, is_plain);
-    let state = a.state;
     PartAnswer {
         number: a.number,
         at: at + a.taken,
         written: a.written,
-        state: state,
+        state: a.state,
     }
 }
 
@@ -140,12 +153,11 @@ fn run_key(
     ensures { part_left result chars.new attrs.new reply.new ≡ key_part rows (world t chars.old attrs.old) code at reply.old }
 {
     let a = key::key_on(t, rows, chars, attrs, code, reply);
-    let state = a.state;
     PartAnswer {
         number: a.number,
         at: at,
         written: a.written,
-        state: state,
+        state: a.state,
     }
 }
 
@@ -163,12 +175,11 @@ fn run_post(
     ensures { part_left result chars.new attrs.now reply.now ≡ post_part rows (world t chars.old attrs.now) field text.now at reply.now }
 {
     let a = post::post_on(t, rows, chars, attrs, field, text);
-    let state = a.state;
     PartAnswer {
         number: a.number,
         at: at,
         written: 0,
-        state: state,
+        state: a.state,
     }
 }
 
@@ -187,29 +198,21 @@ pub fn run_from_on(
     requires { (24 ≤ rows) × (rows ≤ 96) }
     ensures { part_left result chars.new attrs.new reply.new ≡ record_part rows (world t chars.old attrs.old) bytes.now at reply.old }
 {
-    let n = refuse_form(bytes);
-    if n != 0 {
-        return PartAnswer {
-            number: n,
+    match read(bytes) {
+        Ok(Record::Host(text)) => run_host(t, rows, chars, attrs, text, at, reply, is_plain),
+        Ok(Record::Key(code)) => run_key(t, rows, chars, attrs, code, at, reply),
+        Ok(Record::Post { field, text }) => run_post(t, rows, chars, attrs, field, text, at, reply),
+        Err(refusal) => PartAnswer {
+            number: refusal.number(),
             at: at,
             written: 0,
             state: t,
-        };
+        },
     }
-    let kind = bytes[0];
-    let number = number_of(bytes);
-    let end = 4 + bytes[1] as usize;
-    if kind == 72 {
-        return run_host(t, rows, chars, attrs, &bytes[4..end], at, reply, is_plain);
-    }
-    if kind == 75 {
-        return run_key(t, rows, chars, attrs, (number % 65536) as u16, at, reply);
-    }
-    run_post(t, rows, chars, attrs, number, &bytes[4..end], at, reply)
 }
 
-// `run_from_on` in a memory of 96 rows. Takes any state and any buffers.
-pub fn run_from(
+// `run_from_on` in a memory of a size. Takes any state and any buffers.
+pub fn run_from<S: Size>(
     t: Terminal,
     chars: &mut [u8],
     attrs: &mut [u8],
@@ -217,24 +220,13 @@ pub fn run_from(
     at: usize,
     reply: &mut [u8],
 ) -> PartAnswer
-    ensures { part_left result chars.new attrs.new reply.new ≡ record_part 96 (world t chars.old attrs.old) bytes.now at reply.old }
+    ensures { part_left result chars.new attrs.new reply.new ≡ record_part S.size (world t chars.old attrs.old) bytes.now at reply.old }
 {
-    run_from_on(t, 96, chars, attrs, bytes, at, reply, false)
+    run_from_on(t, S::rows(), chars, attrs, bytes, at, reply, false)
 }
 
-// `run_from` in a memory of 48 rows.
-pub fn run_from_48(
-    t: Terminal,
-    chars: &mut [u8],
-    attrs: &mut [u8],
-    bytes: &[u8],
-    at: usize,
-    reply: &mut [u8],
-) -> PartAnswer
-    ensures { part_left result chars.new attrs.new reply.new ≡ record_part 48 (world t chars.old attrs.old) bytes.now at reply.old }
-{
-    run_from_on(t, 48, chars, attrs, bytes, at, reply, false)
-}
+// The calls that a record needs at most: each takes at least one of its 80 bytes.
+const CALLS: usize = 81;
 
 // One whole session record: its answer, and its reply bytes added up. `reply` is lent with room for the longest reply; what it holds does not matter.
 pub fn run_on(
@@ -252,41 +244,32 @@ pub fn run_on(
     let mut u = t;
     let mut at = 0;
     let mut sum = 0;
-    let mut calls: usize = 81;
-    while 0 < calls {
+    let full = Refusal::Room.number();
+    for _ in 0..CALLS {
         let a = run_from_on(u, rows, chars, attrs, bytes, at, reply, is_plain);
-        let state = a.state;
-        u = state;
+        u = a.state;
         at = a.at;
         sum += a.written;
-        if a.number != 7 {
+        if a.number != full {
             return RanAnswer {
                 answer: a.number,
                 replied: sum,
                 state: u,
             };
         }
-        calls -= 1;
     }
     RanAnswer {
-        answer: 7,
+        answer: full,
         replied: sum,
         state: u,
     }
 }
 
-// `run_on` in a memory of 96 rows, with a reply buffer of its own. Takes any state and any buffers.
-pub fn run(t: Terminal, chars: &mut [u8], attrs: &mut [u8], bytes: &[u8]) -> RanAnswer
-    ensures { ran_left result chars.new attrs.new ≡ record_ran 96 (world t chars.old attrs.old) bytes.now }
+// `run_on` in a memory of a size, with a reply buffer of its own. Takes any state and any buffers.
+pub fn run<S: Size>(t: Terminal, chars: &mut [u8], attrs: &mut [u8], bytes: &[u8]) -> RanAnswer
+    ensures { ran_left result chars.new attrs.new ≡ record_ran S.size (world t chars.old attrs.old) bytes.now }
 {
+    let rows = S::rows();
     let mut reply = [0u8; 15360];
-    run_on(t, 96, chars, attrs, bytes, &mut reply, false)
-}
-
-// `run` in a memory of 48 rows.
-pub fn run_48(t: Terminal, chars: &mut [u8], attrs: &mut [u8], bytes: &[u8]) -> RanAnswer
-    ensures { ran_left result chars.new attrs.new ≡ record_ran 48 (world t chars.old attrs.old) bytes.now }
-{
-    let mut reply = [0u8; 7680];
-    run_on(t, 48, chars, attrs, bytes, &mut reply, false)
+    run_on(t, rows, chars, attrs, bytes, &mut reply[..rows * 160], false)
 }

@@ -9,7 +9,7 @@ ghost use Rattle.sessions.specs.Session.{next as Session·next, decimal, three};
 ghost use Rattle.sessions.specs.Parts.{lines_left, records_run, ended, end_written};
 
 use cursor::Cursor;
-use terminal::Terminal;
+use terminal::{Size, Terminal};
 
 // The bytes taken, the bytes written to the lines, the number of the next record, and the state afterwards.
 #[derive(Clone, Copy)]
@@ -133,8 +133,8 @@ pub fn run_records_on(
     )
 }
 
-// `run_records_on` in a memory of 96 rows. Takes any state and any buffers.
-pub fn run_records(
+// `run_records_on` in a memory of a size. Takes any state and any buffers.
+pub fn run_records<S: Size>(
     t: Terminal,
     chars: &mut [u8],
     attrs: &mut [u8],
@@ -142,23 +142,9 @@ pub fn run_records(
     bytes: &[u8],
     lines: &mut [u8],
 ) -> LinesAnswer
-    ensures { lines_left result chars.new attrs.new lines.new ≡ records_run 96 (world t chars.old attrs.old) number bytes.now lines.old }
+    ensures { lines_left result chars.new attrs.new lines.new ≡ records_run S.size (world t chars.old attrs.old) number bytes.now lines.old }
 {
-    run_records_on(t, 96, chars, attrs, number, bytes, lines, false)
-}
-
-// `run_records` in a memory of 48 rows.
-pub fn run_records_48(
-    t: Terminal,
-    chars: &mut [u8],
-    attrs: &mut [u8],
-    number: u64,
-    bytes: &[u8],
-    lines: &mut [u8],
-) -> LinesAnswer
-    ensures { lines_left result chars.new attrs.new lines.new ≡ records_run 48 (world t chars.old attrs.old) number bytes.now lines.old }
-{
-    run_records_on(t, 48, chars, attrs, number, bytes, lines, false)
+    run_records_on(t, S::rows(), chars, attrs, number, bytes, lines, false)
 }
 
 // The end line, the word `end` and the cursor's row, column and the window's top, to the start of `line`; how many bytes it has. Nothing is written, and 0 is

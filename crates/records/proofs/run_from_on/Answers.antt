@@ -1,38 +1,40 @@
--- `records::run_from_on` meets its contract: another form by its answer, each kind by its own function. Assumes nothing.
-use Prim.Native.Nat.{ℕ, ◌+◌, ◌%◌}
-use mathlib.Core.Path.{◌≡◌, refl, ap, sym, ◌∙◌}
+-- `records::run_from_on` meets its contract: each kind by its own function, what is no record by its refusal. Assumes nothing.
+use Prim.Native.Nat.{ℕ}
+use mathlib.Core.Path.{ap, sym, ◌∙◌}
 use mathlib.Core.List.{List}
 use native.Mathlib.Omega.{arith}
 use borrow.Author.Rules.{rules}
 use Rattle.terminal.specs.State.{world}
-use Rattle.records.specs.Records.{length_of, number_of, data_of, host_part, key_part, post_part}
-use Rattle.records.proofs.Forms.{formed, data-part}
+use Rattle.terminal.proofs.Refusals.{not-done}
+use Rattle.records.specs.Records.{number_of, data_of, host_part, key_part, post_part}
 use Rattle.records.proofs.Running.{other-form, host-record, key-record, post-record}
 use Rattle.records.proofs.run_from_on.Goals as goal
 
-pub returns-then-n-ne0 : goal.returns-then-n-ne0
-returns-then-n-ne0 c = other-form _ _ _ _ _ c.refuse_form-n.ensures c.if-n-ne0.true
+pub returns-in-Ok-Host : goal.returns-in-Ok-Host
+returns-in-Ok-Host c =
+    let a = c.args in
+    let w = world a.t a.chars.now a.attrs.now in
+    let s = rw c.in-Ok-Host.field-0-is at c.in-Ok-Host.ensures in
+    c.run_host.ensures ∙ ap (λ (p : List ℕ). host_part a.rows w p a.at a.reply.now) s.2 ∙ host-record a.rows w a.bytes.now a.at a.reply.now s.0 s.1
 
-pub bounds-bytes-0 : goal.bounds-bytes-0
-bounds-bytes-0 c = let a = c.args in let r = a.bytes.now in let f = sym c.refuse_form-n.ensures ∙ c.if-n-ne0.false in omega (arith, (formed r f).whole)
+pub returns-in-Ok-Key : goal.returns-in-Ok-Key
+returns-in-Ok-Key c =
+    let a = c.args in
+    let w = world a.t a.chars.now a.attrs.now in
+    let s = rw c.in-Ok-Key.field-0-is at c.in-Ok-Key.ensures in
+    c.run_key.ensures ∙ ap (λ (k : ℕ). key_part a.rows w k a.at a.reply.now) s.2 ∙ key-record a.rows w a.bytes.now a.at a.reply.now s.0 (λ z. omega (arith, s.1)) s.1
 
-pub number_of-number-requires : goal.number_of-number-requires
-number_of-number-requires c = let a = c.args in let r = a.bytes.now in let f = sym c.refuse_form-n.ensures ∙ c.if-n-ne0.false in omega (arith, (formed r f).whole)
+pub returns-in-Ok-Post : goal.returns-in-Ok-Post
+returns-in-Ok-Post c =
+    let a = c.args in
+    let r = a.bytes.now in
+    let w = world a.t a.chars.now a.attrs.now in
+    let s = rw c.in-Ok-Post.field-0-is at c.in-Ok-Post.ensures in
+    c.run_post.ensures ∙ ap (λ (p : List ℕ). post_part a.rows w c.in-Ok-Post.field p a.at a.reply.now) s.3
+    ∙ ap (λ (k : ℕ). post_part a.rows w k (data_of r) a.at a.reply.now) s.2
+    ∙ post-record a.rows w r a.at a.reply.now s.0 (λ z. omega (arith, s.1)) (λ z. omega (arith, s.1))
 
-pub bounds-bytes-1 : goal.bounds-bytes-1
-bounds-bytes-1 c = let a = c.args in let r = a.bytes.now in let f = sym c.refuse_form-n.ensures ∙ c.if-n-ne0.false in omega (arith, (formed r f).whole)
-
-pub slice_bounds-run_host-end : goal.slice_bounds-run_host-end
-slice_bounds-run_host-end c = let a = c.args in let r = a.bytes.now in let f = sym c.refuse_form-n.ensures ∙ c.if-n-ne0.false in omega (arith, (formed r f).whole, (formed r f).size_in)
-
-pub returns-then-kind-eq72 : goal.returns-then-kind-eq72
-returns-then-kind-eq72 c = let a = c.args in let r = a.bytes.now in let f = sym c.refuse_form-n.ensures ∙ c.if-n-ne0.false in let w = world a.t a.chars.now a.attrs.now in c.run_host.ensures ∙ ap (λ (p : List ℕ). host_part a.rows w p a.at a.reply.now) (data-part r (4 + length_of r) refl) ∙ host-record a.rows w r a.at a.reply.now f c.if-kind-eq72.true
-
-pub returns-then-kind-eq75 : goal.returns-then-kind-eq75
-returns-then-kind-eq75 c = let a = c.args in let r = a.bytes.now in let f = sym c.refuse_form-n.ensures ∙ c.if-n-ne0.false in let w = world a.t a.chars.now a.attrs.now in let e : c.number_of-number.result % 65536 ≡ number_of r = omega (arith, c.number_of-number.ensures, c.shared_slice_known-2-1.given 2, c.shared_slice_known-2-1.given 3) in c.run_key.ensures ∙ ap (λ (k : ℕ). key_part a.rows w k a.at a.reply.now) e ∙ key-record a.rows w r a.at a.reply.now f c.if-kind-eq72.false c.if-kind-eq75.true
-
-pub slice_bounds-run_post-end : goal.slice_bounds-run_post-end
-slice_bounds-run_post-end c = let a = c.args in let r = a.bytes.now in let f = sym c.refuse_form-n.ensures ∙ c.if-n-ne0.false in omega (arith, (formed r f).whole, (formed r f).size_in)
-
-pub returns : goal.returns
-returns c = let a = c.args in let r = a.bytes.now in let f = sym c.refuse_form-n.ensures ∙ c.if-n-ne0.false in let w = world a.t a.chars.now a.attrs.now in c.run_post.ensures ∙ ap (λ (p : List ℕ). post_part a.rows w c.number_of-number.result p a.at a.reply.now) (data-part r (4 + length_of r) refl) ∙ ap (λ (k : ℕ). post_part a.rows w k (data_of r) a.at a.reply.now) c.number_of-number.ensures ∙ post-record a.rows w r a.at a.reply.now f c.if-kind-eq72.false c.if-kind-eq75.false
+pub returns-in-Err : goal.returns-in-Err
+returns-in-Err c =
+    let a = c.args in
+    other-form a.rows (world a.t a.chars.now a.attrs.now) a.bytes.now a.at a.reply.now (c.number.ensures ∙ c.in-Err.ensures) (λ z. not-done c.in-Err.refusal (sym c.number.ensures ∙ z))
