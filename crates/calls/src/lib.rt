@@ -1,203 +1,147 @@
-// One call of host, operator or a reader, and its line. A call has 85 bytes: the reader's number, 0 for none, and a session record, of kind R where a reader reads a field back.
+// Calls of host, operator or a reader, each with its line. A call has 85 bytes: the reader's number, 0 for none, and a session record, of kind R where a reader reads a field back.
 #![tactic(auto)]
 
 ghost use Rattle.std.specs.Prelude.{◌≡◌, ◌*◌, ◌≤◌, length};
 
-use printing::{Output, Page};
+use printing::Output;
 use terminal::Terminal;
 
-// What is printed, the terminal, and the number of the next call.
-#[derive(Clone, Copy)]
-pub struct Progress {
-    pub out: Output,
-    pub state: Terminal,
-    pub number: u64,
-}
-
-// The answer, how many bytes are sent or read, whether they are a text that was read, and the terminal.
-#[derive(Clone, Copy)]
-struct Made {
-    answer: u8,
-    size: usize,
-    is_text: bool,
+// What calls are made on: a terminal, its memory of `rows` rows, who owns its fields, a room for what is sent or read, and the number of the next call.
+#[derive(Drop)]
+pub struct Machine<'a> {
+    rows: usize,
+    chars: &'a mut [u8],
+    attrs: &'a mut [u8],
+    owners: &'a [u8],
+    reply: &'a mut [u8],
     state: Terminal,
+    number: u64,
+    ghost sized: { (24 ≤ rows) × (rows ≤ 96) × (length reply.now ≡ rows * 160) },
 }
 
-// The call, and its line; fewer than 85 bytes are a short one.
-pub fn run(
-    p: Progress,
-    page: &mut Page,
-    rows: usize,
-    chars: &mut [u8],
-    attrs: &mut [u8],
-    owners: &[u8],
-    bytes: &[u8],
-    reply: &mut [u8],
-) -> Progress
-    requires { (24 ≤ rows) × (rows ≤ 96) × (length reply.old ≡ rows * 160) }
-{
-    let a = make(p.state, rows, chars, attrs, owners, bytes, reply);
-    let out = print_line(p.out, page, p.number, a, reply);
-    let state = a.state;
-    Progress {
-        out: out,
-        state: state,
-        number: sessions::next(p.number),
-    }
+// What a call gave: its answer and how many bytes are sent or would be read, or how long the text is that was read.
+#[derive(Clone, Copy)]
+enum Made {
+    Answer(u8, usize),
+    Text(usize),
 }
 
-fn make(
-    t: Terminal,
-    rows: usize,
-    chars: &mut [u8],
-    attrs: &mut [u8],
-    owners: &[u8],
-    bytes: &[u8],
-    reply: &mut [u8],
-) -> Made
-    requires { (24 ≤ rows) × (rows ≤ 96) × (length reply.old ≡ rows * 160) }
-{
-    if bytes.len() < 85 {
-        return refuse(t, 12);
-    }
-    let reader = bytes[0];
-    let record = &bytes[1..85];
-    if reader == 0 {
-        return run_record(t, rows, chars, attrs, record, reply);
-    }
-    make_as(t, rows, chars, attrs, owners, reader, record, reply)
-}
-
-// A call that is not made.
-fn refuse(t: Terminal, answer: u8) -> Made {
-    Made {
-        answer: answer,
-        size: 0,
-        is_text: false,
-        state: t,
-    }
-}
-
-// A session record, which names no reader.
-fn run_record(
-    t: Terminal,
-    rows: usize,
-    chars: &mut [u8],
-    attrs: &mut [u8],
-    record: &[u8],
-    reply: &mut [u8],
-) -> Made
-    requires { (24 ≤ rows) × (rows ≤ 96) × (length reply.old ≡ rows * 160) }
-{
-    let a = records::run_on(t, rows, chars, attrs, record, reply, false);
-    let state = a.state;
-    Made {
-        answer: a.answer,
-        size: a.replied,
-        is_text: false,
-        state: state,
-    }
-}
-
-fn wide(b: u8) -> usize {
-    b as usize
-}
-
-// A reader's record: P its post, R a reading back; 11 for another form.
-fn make_as(
-    t: Terminal,
-    rows: usize,
-    chars: &mut [u8],
-    attrs: &[u8],
-    owners: &[u8],
-    reader: u8,
-    bytes: &[u8],
-    reply: &mut [u8],
-) -> Made
-    requires { (24 ≤ rows) × (rows ≤ 96) × (length bytes.now ≡ 84) × (length reply.old ≡ rows * 160) }
-{
-    let size = wide(bytes[1]);
-    if 80 < size {
-        return refuse(t, 11);
-    }
-    let field = records::number_of(bytes);
-    let end = 4 + size;
-    if bytes[0] == b'P' {
-        if records::is_zero(bytes, end) {
-            return post(t, rows, chars, attrs, owners, reader, field, &bytes[4..end]);
+impl<'a> Machine<'a> {
+    // A fresh terminal, in memory that is lent.
+    pub fn new(
+        rows: usize,
+        chars: &'a mut [u8],
+        attrs: &'a mut [u8],
+        owners: &'a [u8],
+        reply: &'a mut [u8],
+    ) -> Machine<'a>
+        requires { (24 ≤ rows) × (rows ≤ 96) × (length reply.old ≡ rows * 160) }
+    {
+        Machine {
+            rows,
+            chars,
+            attrs,
+            owners,
+            reply,
+            state: Terminal::fresh_state(rows),
+            number: 0,
         }
     }
-    if bytes[0] == b'R' {
-        if records::is_zero(bytes, 4) {
-            return read(
-                t,
-                rows,
-                chars,
-                attrs,
-                owners,
-                reader,
-                field,
-                &mut reply[0..size],
-            );
+
+    // The call, and its line; fewer than 85 bytes are a short one.
+    pub fn run(&mut self, out: &mut Output, bytes: &[u8]) {
+        let number = self.number;
+        self.number = sessions::next(number);
+        match self.make(bytes) {
+            Made::Answer(answer, size) => write!(out, "{number} {answer} {size}\n"),
+            Made::Text(size) => {
+                write!(out, "{number} 0 {size}");
+                if let Some(text) = self.reply.get(..size) {
+                    out.text(b" |");
+                    out.text(text);
+                    out.text(b"|");
+                }
+                out.text(b"\n");
+            }
         }
     }
-    refuse(t, 11)
-}
 
-fn post(
-    t: Terminal,
-    rows: usize,
-    chars: &mut [u8],
-    attrs: &[u8],
-    owners: &[u8],
-    reader: u8,
-    field: usize,
-    text: &[u8],
-) -> Made
-    requires { (24 ≤ rows) × (rows ≤ 96) }
-{
-    let a = readers::post_as_on(t, rows, chars, attrs, owners, reader, field, text);
-    refuse(a.state, a.number)
-}
-
-// The text goes to the start of `room`, whose size is the record's length.
-fn read(
-    t: Terminal,
-    rows: usize,
-    chars: &[u8],
-    attrs: &[u8],
-    owners: &[u8],
-    reader: u8,
-    field: usize,
-    room: &mut [u8],
-) -> Made
-    requires { (24 ≤ rows) × (rows ≤ 96) }
-{
-    let a = readers::read_back_on(t, rows, chars, attrs, owners, reader, field, room);
-    Made {
-        answer: a.number,
-        size: a.written,
-        is_text: a.number == 0,
-        state: t,
+    // The end line: the cursor's row and column, and the window's top.
+    pub fn end(&self, out: &mut Output) {
+        let cursor = self.state.cursor;
+        write!(out, "end {} {} {}\n", cursor.row, cursor.col, cursor.top);
     }
-}
 
-// The call's number, its answer, how many bytes are sent or read, and what is read, between bars.
-fn print_line(out: Output, page: &mut Page, number: u64, a: Made, reply: &[u8]) -> Output {
-    let out = printing::number(out, page, number);
-    let out = printing::named(out, page, b" ", a.answer as usize);
-    let out = printing::named(out, page, b" ", a.size);
-    let out = print_text(out, page, a.is_text, a.size, reply);
-    printing::text(out, page, b"\n")
-}
-
-fn print_text(out: Output, page: &mut Page, is_text: bool, n: usize, reply: &[u8]) -> Output {
-    if is_text {
-        if n <= reply.len() {
-            let out = printing::text(out, page, b" |");
-            let out = printing::text(out, page, &reply[0..n]);
-            return printing::text(out, page, b"|");
+    fn make(&mut self, bytes: &[u8]) -> Made {
+        if bytes.len() < 85 {
+            return Made::Answer(12, 0);
+        }
+        let record = &bytes[1..85];
+        match bytes[0] {
+            0 => self.run_record(record),
+            reader => self.make_as(reader, record),
         }
     }
-    out
+
+    // A session record, which names no reader.
+    fn run_record(&mut self, record: &[u8]) -> Made {
+        let ran = records::run_on(
+            self.state, self.rows, self.chars, self.attrs, record, self.reply, false,
+        );
+        self.state = ran.state;
+        Made::Answer(ran.answer, ran.replied)
+    }
+
+    // A reader's record: P its post, R a reading back; 11 for another form.
+    fn make_as(&mut self, reader: u8, bytes: &[u8]) -> Made
+        requires { length bytes.now ≡ 84 }
+    {
+        let size = usize::from(bytes[1]);
+        if 80 < size {
+            return Made::Answer(11, 0);
+        }
+        let field = records::number_of(bytes);
+        let end = 4 + size;
+        match bytes[0] {
+            b'P' if records::is_zero(bytes, end) => self.post(reader, field, &bytes[4..end]),
+            b'R' if records::is_zero(bytes, 4) => self.read(reader, field, size),
+            _ => Made::Answer(11, 0),
+        }
+    }
+
+    fn post(&mut self, reader: u8, field: usize, text: &[u8]) -> Made {
+        let posted = readers::post_as_on(
+            self.state,
+            self.rows,
+            self.chars,
+            self.attrs,
+            self.owners,
+            reader,
+            field,
+            text,
+        );
+        self.state = posted.state;
+        Made::Answer(posted.number, 0)
+    }
+
+    // The text goes to the start of the room, of which it gets `size` bytes.
+    fn read(&mut self, reader: u8, field: usize, size: usize) -> Made
+        requires { size ≤ 80 }
+    {
+        let room = &mut self.reply[..size];
+        let read = readers::read_back_on(
+            self.state,
+            self.rows,
+            self.chars,
+            self.attrs,
+            self.owners,
+            reader,
+            field,
+            room,
+        );
+        match read.number {
+            0 => Made::Text(read.written),
+            answer => Made::Answer(answer, read.written),
+        }
+    }
 }

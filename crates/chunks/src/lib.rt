@@ -1,295 +1,181 @@
-// A chunk of a file, run on the terminal and told: session records, or a part of a host stream. `rows` is the number of rows of its memory, 24 to 96.
+// A chunk of a file, run on the terminal and told: session records, or a part of a host stream.
 #![tactic(auto)]
 
-ghost use Rattle.std.specs.Prelude.{◌≡◌, ◌+◌, ◌≤◌, min};
+ghost use Rattle.std.specs.Prelude.{◌≤◌};
 
-use printing::{Output, Page};
+use printing::Output;
+use report::ReportAnswer;
 use terminal::Terminal;
 
-// What is printed, the terminal, the number of the next record, and whether the line of replies to a host stream has a byte yet.
-#[derive(Clone, Copy)]
-pub struct Progress {
-    pub out: Output,
+// The number of an answer that has more to send than the room takes.
+const MORE: u8 = 7;
+
+// What a file is run on: a terminal, its memory of `rows` rows, a room that takes replies or the lines of a session, and the number of the next record.
+#[derive(Drop)]
+pub struct Machine<'a> {
+    rows: usize,
+    pub chars: &'a mut [u8],
+    pub attrs: &'a mut [u8],
+    room: &'a mut [u8],
     pub state: Terminal,
     pub number: u64,
-    pub some: bool,
+    ghost sized: { (24 ≤ rows) × (rows ≤ 96) },
 }
 
-// A session's records and their lines, as many to a call as the room takes; `is_plain` is for the plain reader of host bytes.
-pub fn answer(
-    p: Progress,
-    page: &mut Page,
-    rows: usize,
-    chars: &mut [u8],
-    attrs: &mut [u8],
-    bytes: &[u8],
-    lines: &mut [u8],
-    is_plain: bool,
-) -> Progress
-    requires { (24 ≤ rows) × (rows ≤ 96) }
-{
-    let mut q = p;
-    let mut at = 0;
-    let mut calls = bytes.len();
-    loop {
-        let a = sessions::run_records_on(
-            q.state,
+impl<'a> Machine<'a> {
+    // A fresh terminal, in memory that is lent.
+    pub fn new(
+        rows: usize,
+        chars: &'a mut [u8],
+        attrs: &'a mut [u8],
+        room: &'a mut [u8],
+    ) -> Machine<'a>
+        requires { (24 ≤ rows) × (rows ≤ 96) }
+    {
+        Machine {
             rows,
             chars,
             attrs,
-            q.number,
-            &bytes[at..],
-            lines,
-            is_plain,
-        );
-        let out = print_first(q.out, page, lines, a.written);
-        let state = a.state;
-        q = Progress {
-            out: out,
-            state: state,
-            number: a.number,
-            some: false,
-        };
-        at = after(at, a.taken, bytes.len());
-        if at == bytes.len() {
-            return q;
-        }
-        if calls == 0 {
-            return q;
-        }
-        calls -= 1;
-    }
-}
-
-// The end line of a session.
-pub fn end(p: Progress, page: &mut Page, line: &mut [u8]) -> Output {
-    let t = p.state;
-    let n = sessions::write_end(t.cursor, line);
-    print_first(p.out, page, line, n)
-}
-
-fn print_first(out: Output, page: &mut Page, lines: &[u8], n: usize) -> Output {
-    if n <= lines.len() {
-        return printing::text(out, page, &lines[0..n]);
-    }
-    out
-}
-
-// Host bytes, with the whole reply buffer for each call until all is taken; what an earlier reply left in it is written over, and never told.
-pub fn feed(
-    p: Progress,
-    page: &mut Page,
-    rows: usize,
-    chars: &mut [u8],
-    attrs: &mut [u8],
-    bytes: &[u8],
-    reply: &mut [u8],
-    is_raw: bool,
-) -> Progress
-    requires { (24 ≤ rows) × (rows ≤ 96) }
-{
-    let mut q = p;
-    let mut at = 0;
-    let mut calls = bytes.len();
-    loop {
-        let a = host::host_on(q.state, rows, chars, attrs, &bytes[at..], reply);
-        let out = tell(q.out, page, reply, a.written, q.some, is_raw);
-        let state = a.state;
-        q = Progress {
-            out: out,
-            state: state,
+            room,
+            state: Terminal::fresh_state(rows),
             number: 0,
-            some: is_some(q.some, a.written),
-        };
-        if a.number != 7 {
-            return q;
         }
-        if calls == 0 {
-            return q;
+    }
+
+    // A session's records and their lines, as many to a call as the room takes; `is_plain` is for the plain reader of host bytes.
+    pub fn answer(&mut self, out: &mut Output, bytes: &[u8], is_plain: bool) {
+        let mut rest = bytes;
+        // The calls are counted, so that they end.
+        for _ in 0..=bytes.len() {
+            let a = sessions::run_records_on(
+                self.state,
+                self.rows,
+                self.chars,
+                self.attrs,
+                self.number,
+                rest,
+                self.room,
+                is_plain,
+            );
+            self.state = a.state;
+            self.number = a.number;
+            self.print_room(out, a.written);
+            rest = rest.get(a.taken..).unwrap_or(&[]);
+            if rest.is_empty() {
+                return;
+            }
         }
-        calls -= 1;
-        at = after(at, a.taken, bytes.len());
+    }
+
+    // The end line of a session.
+    pub fn end(&mut self, out: &mut Output) {
+        let size = sessions::write_end(self.state.cursor, self.room);
+        self.print_room(out, size);
+    }
+
+    fn print_room(&self, out: &mut Output, size: usize) {
+        if let Some(lines) = self.room.get(..size) {
+            out.text(lines);
+        }
+    }
+
+    // Host bytes, with the whole room for each call until all is taken; what an earlier reply left in it is written over, and never told.
+    pub fn feed<F: FnMut(&[u8])>(&mut self, bytes: &[u8], mut tell: F)
+        requires { F.IsAlwaysCallable tell }
+    {
+        let mut rest = bytes;
+        // The calls are counted, so that they end.
+        for _ in 0..=bytes.len() {
+            let a = host::host_on(
+                self.state, self.rows, self.chars, self.attrs, rest, self.room,
+            );
+            self.state = a.state;
+            if let Some(reply) = self.room.get(..a.written) {
+                tell(reply);
+            }
+            if a.number != MORE {
+                return;
+            }
+            rest = rest.get(a.taken..).unwrap_or(&[]);
+        }
+    }
+
+    // The records of 84 bytes; a rest is left.
+    pub fn run(&mut self, bytes: &[u8]) {
+        for record in bytes.chunks_exact(84) {
+            self.run_record(record, |_| {});
+        }
+    }
+
+    // The same, and a line of the reply bytes of each.
+    pub fn list_replies(&mut self, out: &mut Output, bytes: &[u8]) {
+        for record in bytes.chunks_exact(84) {
+            let mut line = ReplyLine::begin(out, self.number);
+            self.run_record(record, |reply| line.add(out, reply));
+            out.text(b"\n");
+        }
+    }
+
+    // The same, and a line of the rows that each changed; then none is set.
+    pub fn list_changes(&mut self, out: &mut Output, bytes: &[u8]) {
+        for record in bytes.chunks_exact(84) {
+            let number = self.number;
+            let answer = self.run_record(record, |_| {});
+            let changes = self.state.changes;
+            let told = self.report();
+            listing::print_changes(
+                out, number, answer, told.count, told.first, changes, self.rows,
+            );
+        }
+    }
+
+    // The rows that changed are reported, and none is set.
+    pub fn report(&mut self) -> ReportAnswer {
+        let told = report::report_on(self.state, self.rows);
+        self.state = told.state;
+        told
+    }
+
+    // One record, with the whole room for each call until it is done, and its answer.
+    fn run_record<F: FnMut(&[u8])>(&mut self, record: &[u8], mut tell: F) -> u8
+        requires { F.IsAlwaysCallable tell }
+    {
+        self.number = sessions::next(self.number);
+        let mut at = 0;
+        // The calls are counted, so that they end.
+        for _ in 0..=record.len() {
+            let a = records::run_from_on(
+                self.state, self.rows, self.chars, self.attrs, record, at, self.room, false,
+            );
+            self.state = a.state;
+            if let Some(reply) = self.room.get(..a.written) {
+                tell(reply);
+            }
+            if a.number != MORE {
+                return a.number;
+            }
+            at = a.at;
+        }
+        MORE
     }
 }
 
-// The records of 84 bytes; a rest is left. Each has a line of its reply bytes, or of the rows that it changes, where that is asked for.
-pub fn show(
-    p: Progress,
-    page: &mut Page,
-    rows: usize,
-    chars: &mut [u8],
-    attrs: &mut [u8],
-    bytes: &[u8],
-    reply: &mut [u8],
-    is_raw: bool,
-    is_changes: bool,
-) -> Progress
-    requires { (24 ≤ rows) × (rows ≤ 96) }
-{
-    let mut q = p;
-    let mut at = 0;
-    while 84 <= bytes.len() - at {
-        let end = at + 84;
-        q = show_record(
-            q,
-            page,
-            rows,
-            chars,
-            attrs,
-            &bytes[at..end],
-            reply,
-            is_raw,
-            is_changes,
-        );
-        at = end;
-    }
-    q
-}
-
-// One record and its line.
-fn show_record(
-    p: Progress,
-    page: &mut Page,
-    rows: usize,
-    chars: &mut [u8],
-    attrs: &mut [u8],
-    record: &[u8],
-    reply: &mut [u8],
-    is_raw: bool,
-    is_changes: bool,
-) -> Progress
-    requires { (24 ≤ rows) × (rows ≤ 96) }
-{
-    let out = begin(p.out, page, p.number, is_raw);
-    let r = run_record(
-        out, page, p.state, rows, chars, attrs, record, reply, is_raw,
-    );
-    let out = printing::either(r.out, page, is_raw, b"\n", b"");
-    let state = r.state;
-    let q = Progress {
-        out: out,
-        state: state,
-        number: p.number,
-        some: false,
-    };
-    if is_changes {
-        return show_changes(q, page, rows, r.answer);
-    }
-    next(q)
-}
-
-// The rows that a record changed are a line, and then none is set.
-fn show_changes(p: Progress, page: &mut Page, rows: usize, answer: u8) -> Progress
-    requires { (24 ≤ rows) × (rows ≤ 96) }
-{
-    let t = p.state;
-    let changes = t.changes;
-    let r = report::report_on(t, rows);
-    let out = listing::print_changes(
-        p.out, page, p.number, answer, r.count, r.first, changes, rows,
-    );
-    let state = r.state;
-    next(Progress {
-        out: out,
-        state: state,
-        number: p.number,
-        some: false,
-    })
-}
-
-// On to the next record.
-fn next(p: Progress) -> Progress {
-    let out = p.out;
-    let state = p.state;
-    Progress {
-        out: out,
-        state: state,
-        number: sessions::next(p.number),
-        some: false,
-    }
-}
-
-// A record's answer, what is printed, and the terminal.
+// A line of reply bytes, and whether it has none yet.
 #[derive(Clone, Copy)]
-struct Ran {
-    out: Output,
-    state: Terminal,
-    answer: u8,
+pub struct ReplyLine {
+    is_empty: bool,
 }
 
-// One record, with the whole reply buffer for each call until it is done; raw, its reply bytes are told.
-fn run_record(
-    out: Output,
-    page: &mut Page,
-    t: Terminal,
-    rows: usize,
-    chars: &mut [u8],
-    attrs: &mut [u8],
-    record: &[u8],
-    reply: &mut [u8],
-    is_raw: bool,
-) -> Ran
-    requires { (24 ≤ rows) × (rows ≤ 96) }
-{
-    let mut o = out;
-    let mut u = t;
-    let mut answer = 7;
-    let mut some = false;
-    let mut at = 0;
-    let mut calls = record.len();
-    loop {
-        let a = records::run_from_on(u, rows, chars, attrs, record, at, reply, false);
-        o = tell(o, page, reply, a.written, some, is_raw);
-        some = is_some(some, a.written);
-        u = a.state;
-        at = a.at;
-        answer = a.number;
-        if answer != 7 {
-            break;
-        }
-        if calls == 0 {
-            break;
-        }
-        calls -= 1;
+impl ReplyLine {
+    // The start of the line.
+    pub fn begin(out: &mut Output, number: u64) -> ReplyLine {
+        listing::print_reply(out, number);
+        ReplyLine { is_empty: true }
     }
-    Ran {
-        out: o,
-        state: u,
-        answer: answer,
-    }
-}
 
-// The start of a line of replies.
-pub fn begin(out: Output, page: &mut Page, number: u64, is_raw: bool) -> Output {
-    if is_raw {
-        return listing::print_reply(out, page, number);
+    // Some bytes more.
+    pub fn add(&mut self, out: &mut Output, reply: &[u8]) {
+        listing::print_part(out, reply, self.is_empty);
+        self.is_empty = self.is_empty && reply.is_empty();
     }
-    out
-}
-
-// Raw, the first `n` bytes of a reply; `some` of its line were there before them.
-fn tell(out: Output, page: &mut Page, reply: &[u8], n: usize, some: bool, is_raw: bool) -> Output {
-    if is_raw {
-        return listing::print_part(out, page, reply, n, !some);
-    }
-    out
-}
-
-fn is_some(some: bool, n: usize) -> bool {
-    if 0 < n {
-        return true;
-    }
-    some
-}
-
-// The place `n` bytes on, at most `end`.
-fn after(at: usize, n: usize, end: usize) -> usize
-    ensures { result ≡ min (at + n) end }
-{
-    if at <= end {
-        if n < end - at {
-            return at + n;
-        }
-    }
-    end
 }
