@@ -3,7 +3,7 @@ use mathlib.Core.Path.{◌≡◌, refl, sym, ap, ◌∙◌}
 use mathlib.Core.Logic.{◌⊎◌, inl, inr, ⊎_elim}
 use mathlib.Core.Bool.{Bool, true, false, cond, ◌&&◌, and-false, and-eq-true_iff}
 use mathlib.Core.List.{List, [], ◌∷◌}
-use Prim.Native.Nat.{ℕ, zero, suc, ◌+◌, ◌≤◌, ◌<◌}
+use Prim.Native.Nat.{ℕ, zero, suc, ◌+◌, ◌-◌, ◌≤◌, ◌<◌}
 use native.Mathlib.Nat.{le_of_suc-le-suc, not-suc-le-zero}
 use native.Mathlib.Omega.{arith}
 use native.Mathlib.Decide.{dec_lt, ℕ_discrete}
@@ -11,6 +11,7 @@ use lib.ListN.{length, get_or, set, length-set, get_or-eq_default}
 use lib.Seq.{ext_get_or, get_or-set_same, get_or-set_other}
 use lib.Dec.{leb, ltb}
 use borrow.Author.Tests.{lt-ltb, le-ltb, le-leb, lt-leb, leb-true}
+use Rattle.std.specs.List.{CopiedTo, SameBelow, SameFrom}
 use Rattle.cells.specs.Memory.{inside, patch_from, patch, changed_where_from, changed_where}
 
 -- ---- cases on two numbers
@@ -148,6 +149,17 @@ patched {xs} {ys} {lo} {hi} {f} e b =
   where
     at : (k : ℕ) → get_or ys k 0 ≡ get_or (patch xs lo hi f) k 0
     at k = ap (λ (t : List ℕ). get_or t k 0) e
+
+-- cells that a copy within the memory moved
+pub moved : {xs ys : List ℕ} (f : ℕ → ℕ) (from lo n hi : ℕ) → length ys ≡ length xs → CopiedTo xs ys from lo n × SameBelow xs ys lo × SameFrom xs ys (lo + n) → lo + n ≡ hi
+    → ((k : ℕ) → lo ≤ k → k < hi → get_or xs (from + (k - lo)) 0 ≡ f k) → Cells xs ys lo hi f
+moved f from lo n hi l c e h =
+    record {
+      len = l;
+      low = λ k m. c.1 k 0 m;
+      new = λ k m w. c.0 k 0 m (omega arith) ∙ h k m w;
+      high = λ k m. c.2 k 0 (omega arith);
+    }
 
 -- two stretches that meet: the second above the first, and below it
 pub join : {xs ys zs : List ℕ} {a b e : ℕ} {f g : ℕ → ℕ} → Cells xs ys a b f → Cells ys zs b e g → a ≤ b → b ≤ e → ((k : ℕ) → b ≤ k → k < e → g k ≡ f k) → Cells xs zs a e f

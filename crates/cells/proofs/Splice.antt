@@ -62,6 +62,13 @@ pub lent : (xs ys : List ℕ) (from to : ℕ) → length ys ≡ to - from → ta
 unfolding written
 lent xs ys from to n = ap (λ (t : List ℕ). take from xs ++ (ys ++ t)) (drop-drop (to - from) from xs ∙ ap (λ (k : ℕ). drop (from + k) xs) (sym n))
 
+-- lent on and filled with v, it comes back as v
+pub lent-filled : (xs ys : List ℕ) (from to v : ℕ) → from ≤ to → to ≤ length xs → ys ≡ replicate (length (take (to - from) (drop from xs))) v → take from xs ++ (ys ++ drop (to - from) (drop from xs)) ≡ patch xs from to (λ k. v)
+lent-filled xs ys from to v order fits e =
+    let n : length ys ≡ to - from = ap length e ∙ length-replicate (length (take (to - from) (drop from xs))) v ∙ length_part xs from to fits in
+    lent xs ys from to n ∙ written-by xs from ys (omega arith) to (λ k. v) (omega arith)
+    (λ j l. ap (λ (t : List ℕ). get_or t j 0) e ∙ get_or-replicate (length (take (to - from) (drop from xs))) j v 0 (omega (arith, length_part xs from to fits)))
+
 -- ---- text, then blanks: each cell, and a list that has these cells
 pub text-cell : (text : List ℕ) (n v j : ℕ) → j < length text + n → get_or (text ++ replicate n v) j 0 ≡ cond (ltb j (length text)) (get_or text j 0) v
 text-cell text n v j l =

@@ -9,14 +9,14 @@ ghost use Rattle.cells.specs.Memory.{filled, shifted_right, shifted_left, moved_
 pub fn is_within(lo: u8, hi: u8, v: u8) -> bool
     ensures { result ≡ within lo hi v }
 {
-    lo <= v && v <= hi
+    (lo..=hi).contains(&v)
 }
 
 // The smaller of two numbers.
 pub fn least(a: usize, b: usize) -> usize
     ensures { result ≡ min a b }
 {
-    if a < b { a } else { b }
+    a.min(b)
 }
 
 // Cells `from` to `to - 1` become `v`.
@@ -24,11 +24,7 @@ pub fn fill(s: &mut [u8], from: usize, to: usize, v: u8)
     requires { (from ≤ to) × (to ≤ length s.old) }
     ensures { s.new ≡ filled s.old from to v }
 {
-    let mut i = from;
-    while i < to {
-        s[i] = v;
-        i += 1;
-    }
+    s[from..to].fill(v);
 }
 
 // `v` enters at `from`, the cells up to `to` move right by one, the last is lost.
@@ -36,11 +32,7 @@ pub fn shift_right(s: &mut [u8], from: usize, to: usize, v: u8)
     requires { (from < to) × (to ≤ length s.old) }
     ensures { s.new ≡ shifted_right s.old from to v }
 {
-    let mut i = to - 1;
-    while from < i {
-        s[i] = s[i - 1];
-        i -= 1;
-    }
+    s.copy_within(from..to - 1, from + 1);
     s[from] = v;
 }
 
@@ -49,13 +41,8 @@ pub fn shift_left(s: &mut [u8], from: usize, to: usize, v: u8)
     requires { (from < to) × (to ≤ length s.old) }
     ensures { s.new ≡ shifted_left s.old from to v }
 {
-    let last = to - 1;
-    let mut i = from;
-    while i < last {
-        s[i] = s[i + 1];
-        i += 1;
-    }
-    s[last] = v;
+    s.copy_within(from + 1..to, from);
+    s[to - 1] = v;
 }
 
 // The row that begins at cell `from` goes, the rows below it move up, the last becomes `v`.
@@ -63,14 +50,9 @@ pub fn move_up(s: &mut [u8], from: usize, v: u8)
     requires { from + 80 ≤ length s.old }
     ensures { s.new ≡ moved_up s.old from v }
 {
-    let end = s.len();
-    let last = end - 80;
-    let mut i = from;
-    while i < last {
-        s[i] = s[i + 80];
-        i += 1;
-    }
-    fill(s, last, end, v);
+    let last = s.len() - 80;
+    s.copy_within(from + 80.., from);
+    s[last..].fill(v);
 }
 
 // A row of `v` enters at cell `from`, the rows from there on move down, the last is lost.
@@ -78,13 +60,9 @@ pub fn move_down(s: &mut [u8], from: usize, v: u8)
     requires { from + 80 ≤ length s.old }
     ensures { s.new ≡ moved_down s.old from v }
 {
-    let first = from + 80;
-    let mut i = s.len();
-    while first < i {
-        i -= 1;
-        s[i] = s[i - 80];
-    }
-    fill(s, from, first, v);
+    let last = s.len() - 80;
+    s.copy_within(from..last, from + 80);
+    s[from..from + 80].fill(v);
 }
 
 // The text, then blanks to the part's end.
@@ -93,13 +71,8 @@ pub fn write_text(part: &mut [u8], text: &[u8])
     ensures { part.new ≡ text.now ++ replicate (length part.old - length text.now) 32 }
 {
     let n = text.len();
-    let mut i = 0;
-    while i < n {
-        part[i] = text[i];
-        i += 1;
-    }
-    let end = part.len();
-    fill(part, n, end, 32);
+    part[..n].copy_from_slice(text);
+    part[n..].fill(32);
 }
 
 // The text, then blanks, in the cells `from` to `to - 1`: that part of the memory is lent on.

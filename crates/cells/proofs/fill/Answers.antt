@@ -1,10 +1,9 @@
--- `cells::fill` meets its contract: the loop's invariant is `Cells`, going up. Assumes nothing.
-use mathlib.Core.Path.{refl}
+-- `cells::fill` meets its contract: the lent part comes back as `v`. Assumes nothing.
 use native.Mathlib.Omega.{arith}
 use Rattle.cells.specs.Memory.{filled}
-use Rattle.cells.proofs.Patch.{done}
+use Rattle.cells.proofs.Splice.{lent-filled}
 use Rattle.cells.proofs.fill.Goals as goal
 
 pub returns : goal.returns
 unfolding filled
-returns c = done c.loop-i.invariant.2 refl (omega arith)
+returns c = let a = c.args in lent-filled a.s.now c.fill.new.self a.from a.to a.v (omega arith) (omega arith) (c.fill.ensures.after (λ y e. e))
