@@ -4,7 +4,7 @@ use Prim.Native.Nat.{ℕ, ◌-◌, ◌*◌, ◌≤◌, ◌<◌}
 use mathlib.Core.Path.{◌≡◌, refl, ap, ap₂, sym, ◌∙◌}
 use mathlib.Core.Logic.{inl, inr}
 use mathlib.Core.Bool.{Bool, true, false, not}
-use mathlib.Core.List.{List}
+use mathlib.Core.List.{List, [], ◌∷◌}
 use native.Mathlib.Omega.{arith}
 use lib.ListN.{length, replicate}
 use lib.Dec.{ltb, eqb}
@@ -23,11 +23,13 @@ use Rattle.changes.specs.Differing.{differing_both}
 use Rattle.terminal.specs.declared.Terminal.{Terminal}
 use Rattle.terminal.specs.State.{World, world, flagged, is_good, is_sized, barred, Good, Sound}
 use Rattle.terminal.specs.Noted.{differing_rows, noted}
-use Rattle.terminal.specs.Refusals.{first_refusal}
-use Rattle.terminal.proofs.Refusals.{passed}
+use Rattle.terminal.specs.declared.refusal.Refusal.{Refusal}
+use Rattle.terminal.specs.Numbers.{number_of}
+use Rattle.terminal.specs.Refusals.{◌when◌, first_refusal}
+use Rattle.terminal.proofs.Refusals.{passed, not-done, closed}
 use Rattle.terminal.proofs.Good.{sound-in}
 use Rattle.terminal.proofs.Noted.{good-flagged, noted-long, noted-sound, noted-if}
-use Rattle.post.specs.Posts.{Posted, all_fit, is_too_long, misfits, post_refusal, posted_at, posted_to}
+use Rattle.post.specs.Posts.{Posted, all_fit, is_too_long, misfits, post_refusal, post_tests, posted_at, posted_to}
 use Rattle.post.specs.Field.{field_refusal, posted_in, entered, field_refusal_if, posted_in_if, refusal_if, posted_if, entered_if, numbered}
 
 -- what a post into the field that starts at cell k leaves
@@ -175,6 +177,15 @@ module _ {rows : ℕ} {w : World} (s : Sound rows w) (text : List ℕ) (field : 
     | inr z ↦ rw (post-refused rows w field text z) s
   ]
 
+-- ---- a post that the first two tests refuse
+pub refused-early : (rows : ℕ) (w : World) (owned : Bool) (field : ℕ) (text : List ℕ) (e : Refusal)
+    → number_of e ≡ first_refusal ((1 when not (is_sized rows w.chars w.attrs)) ∷ (2 when not (is_good rows w.state)) ∷ [])
+    → record { number = number_of e; world = w } ≡ entered_if rows w owned field text
+unfolding entered_if refusal_if
+refused-early rows w owned field text e h =
+    let n : number_of e ≡ first_refusal (post_tests rows w (is_sized rows w.chars w.attrs) owned field text) = closed _ _ _ e h in
+    rw (← n, ne_eqb (number_of e) 0 (not-done e))
+
 -- ---- a post's row joined to those of the state
 module _ (rows : ℕ) (w : World) (owned : Bool) (field : ℕ) (text : List ℕ) where
   if-sound : rows ≤ 96 → refusal_if rows w owned field text ≡ 0 → Sound rows w
@@ -195,6 +206,14 @@ entered-noted rows t chars₀ chars attrs owned field text few e f j k =
     ap₂ (λ (m : ℕ) (v : World). record { number = m; world = v }) (ap (λ (p : Posted). p.number) e)
     (noted-if (eqb (refusal_if rows w owned field text) 0) w (posted_at w text (nth_field (marks attrs) field)) {u = world t chars attrs}
     (λ z. (if-sound rows w owned field text few (eqb-true (refusal_if rows w owned field text) 0 z)).good) (ap (λ (p : Posted). p.world) e) f j k)
+
+-- a refused post has none
+pub entered-left : (rows : ℕ) (t : Terminal) (chars₀ chars attrs : List ℕ) (owned : Bool) (field : ℕ) (text : List ℕ) {n : ℕ}
+    → numbered n t chars attrs ≡ entered_if rows (world t chars₀ attrs) owned field text → (n ≡ 0 → ⊥)
+    → numbered n t chars attrs ≡ posted_if rows (world t chars₀ attrs) owned field text
+unfolding entered_if posted_if
+entered-left rows t chars₀ chars attrs owned field text e h =
+    e ∙ rw (ne_eqb (refusal_if rows (world t chars₀ attrs) owned field text) 0 (λ z. h (ap (λ (p : Posted). p.number) e ∙ z)))
 
 -- ---- by one who owns the field a post is the one that names no reader
 pub field_refusal-owned : (w : World) (text : List ℕ) (f : Option ℕ) → field_refusal_if w true text f ≡ field_refusal w text f

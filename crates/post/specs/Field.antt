@@ -1,9 +1,12 @@
 -- Only proofs and inner contracts need this: a post before its row is noted, and from the field on, once the tests before it have passed; and the same by one who owns the field or does
 -- not. Assumes nothing.
-use Rattle.std.specs.Prelude.{ℕ, Bool, cond, not, List, [], ◌∷◌, eqb, Option, is_none}
+use Rattle.std.specs.Prelude.{ℕ, Bool, cond, not, List, [], ◌∷◌, eqb, Option, is_none, Result, Ok, Err}
+use Rattle.changes.specs.declared.Changes.{Changes}
 use Rattle.fields.specs.Fields.{marks, nth_field}
 use Rattle.terminal.specs.declared.Terminal.{Terminal}
+use Rattle.terminal.specs.declared.refusal.Refusal.{Refusal}
 use Rattle.terminal.specs.State.{World, world, is_sized}
+use Rattle.terminal.specs.Numbers.{number_of}
 use Rattle.terminal.specs.Refusals.{◌when◌, first_refusal}
 use Rattle.post.specs.Posts.{Posted, is_too_long, misfits, post_refusal, post_tests, posted_at, posted_with}
 
@@ -48,3 +51,11 @@ entered_if rows w owned field text =
 -- what it leaves, from its number, and the state that it leaves as it was
 abbrev pub numbered : ℕ → Terminal → List ℕ → List ℕ → Posted
 numbered n t chars attrs = record { number = n; world = world t chars attrs }
+
+-- the same of what an inner call gives: the rows that changed, or why it is refused
+abbrev pub entry_number : Result Changes Refusal → ℕ
+entry_number (Ok changes) = 0
+entry_number (Err refusal) = number_of refusal
+
+abbrev pub entry_left : Result Changes Refusal → Terminal → List ℕ → List ℕ → Posted
+entry_left entry t chars attrs = numbered (entry_number entry) t chars attrs

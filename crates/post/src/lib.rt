@@ -1,17 +1,18 @@
 // The call for a post: text into a field, with the cursor left where it is.
 #![tactic(auto)]
 
-ghost use Rattle.std.specs.Prelude.{◌≡◌, false, ℕ, ◌*◌, ◌≤◌, ◌<◌, replicate};
+ghost use Rattle.std.specs.Prelude.{◌≡◌, ◌*◌, ◌≤◌, ◌<◌, IfOk};
+ghost use Rattle.std.specs.List.{list_all};
 ghost use Rattle.changes.specs.Sets.{set_of};
 ghost use Rattle.changes.specs.Differing.{differing_both};
 ghost use Rattle.terminal.specs.State.{world, Sound};
-ghost use Rattle.post.specs.Posts.{fits, all_fit, post_left, posted_to};
-ghost use Rattle.post.specs.Field.{numbered, entered_if, posted_in_if, posted_if};
+ghost use Rattle.post.specs.Posts.{fits, post_left, posted_to};
+ghost use Rattle.post.specs.Field.{entry_left, entered_if, posted_in_if, posted_if};
 
 use changes::Changes;
-use terminal::{Size, Terminal};
+use terminal::{Refusal, Size, Terminal};
 
-// The number, and the state afterwards: the state before with the row that changed.
+// The number, and the state afterwards: the state before with the row that changed. A number stays a byte, as document 01 gives it: the state comes back with a refusal too.
 #[derive(Clone, Copy)]
 pub struct PostAnswer {
     pub number: u8,
@@ -30,37 +31,12 @@ fn fits_one(kind: u8, b: u8) -> bool
 
 // Whether each byte of a text fits.
 fn fits_all(kind: u8, text: &[u8]) -> bool
-    ensures { result ≡ all_fit kind text.now }
+    ensures { result ≡ list_all (fits kind) text.now }
 {
-    let mut i = 0;
-    while i < text.len() {
-        if !fits_one(kind, text[i]) {
-            return false;
-        }
-        i += 1;
-    }
-    true
+    text.iter().all(|b| fits_one(kind, *b))
 }
 
-// What a post did to the memory: its number, and the row that it changed, if any.
-#[derive(Clone, Copy)]
-struct Entry {
-    number: u8,
-    changes: Changes,
-}
-
-// A post that leaves the memory.
-fn leave(number: u8) -> Entry
-    ensures { (result.number ≡ number) × ((n : ℕ) → result.changes ≡ set_of (replicate n false)) }
-{
-    let changes = Changes::none();
-    Entry {
-        number: number,
-        changes: changes,
-    }
-}
-
-// A post into the field that starts at cell `k`, by one who owns it or does not. What stands there already is not written again.
+// A post into the field that starts at cell `k`, by one who owns it or does not: the row that it changed, if any, or why it is refused. What stands there already is not written again.
 fn post_field(
     t: Terminal,
     rows: usize,
@@ -69,37 +45,32 @@ fn post_field(
     owned: bool,
     k: usize,
     text: &[u8],
-) -> Entry
-    requires fact_1 { Sound rows (world t chars.old attrs.now) }
-    requires fact_2 { k < rows * 80 }
-    ensures attrs_after { numbered result.number t chars.new attrs.now ≡ posted_in_if (world t chars.old attrs.now) owned text.now (Some k) }
-    ensures changes_value { result.changes ≡ set_of (differing_both rows chars.old attrs.now chars.new attrs.now) }
+) -> Result<Changes, Refusal>
+    requires sound { Sound rows (world t chars.old attrs.now) }
+    requires inside { k < rows * 80 }
+    ensures left { entry_left result t chars.new attrs.now ≡ posted_in_if (world t chars.old attrs.now) owned text.now (Some k) }
+    ensures changed { IfOk result (λ found. found ≡ set_of (differing_both rows chars.old attrs.now chars.new attrs.now)) }
 {
     let end = fields::field_end(attrs, k);
-    let foreign = !owned;
     let long = end - k < text.len();
-    if foreign {
-        return leave(13);
+    if !owned {
+        return Err(Refusal::Owner);
     }
     if long {
-        return leave(10);
+        return Err(Refusal::Length);
     }
     let kind = fields::kind_at(attrs, k);
     if !fits_all(kind, text) {
-        return leave(6);
+        return Err(Refusal::Character);
     }
     if !compare::post_differs(chars, k, end, text) {
-        return leave(0);
+        return Ok(Changes::none());
     }
     cells::post_at(chars, k, end, text);
-    let changes = Changes::one(k / 80, true);
-    Entry {
-        number: 0,
-        changes: changes,
-    }
+    Ok(Changes::one(k / 80, true))
 }
 
-// A post to a field, in a memory of `rows` rows, by one who owns it or does not.
+// A post to a field, in a memory of `rows` rows, by one who owns it or does not: the row that it changed, if any, or why it is refused.
 fn post_to(
     t: Terminal,
     rows: usize,
@@ -108,27 +79,21 @@ fn post_to(
     owned: bool,
     field: usize,
     text: &[u8],
-) -> Entry
+) -> Result<Changes, Refusal>
     requires { (24 ≤ rows) × (rows ≤ 96) }
-    ensures attrs_after { numbered result.number t chars.new attrs.now ≡ entered_if rows (world t chars.old attrs.now) owned field text.now }
-    ensures changes_value { result.changes ≡ set_of (differing_both rows chars.old attrs.now chars.new attrs.now) }
+    ensures left { entry_left result t chars.new attrs.now ≡ entered_if rows (world t chars.old attrs.now) owned field text.now }
+    ensures changed { IfOk result (λ found. found ≡ set_of (differing_both rows chars.old attrs.now chars.new attrs.now)) }
 {
-    if !terminal::is_sized(rows, chars, attrs) {
-        return leave(1);
-    }
-    if !t.is_good(rows) {
-        return leave(2);
-    }
+    t.check(rows, chars, attrs)?;
     if t.is_barred() {
-        return leave(4);
+        return Err(Refusal::Barred);
     }
     if !t.format {
-        return leave(8);
+        return Err(Refusal::Format);
     }
-    let start = fields::nth_field(attrs, field);
-    match start {
+    match fields::nth_field(attrs, field) {
         Some(k) => post_field(t, rows, chars, attrs, owned, k, text),
-        None => leave(9),
+        None => Err(Refusal::Field),
     }
 }
 
@@ -145,12 +110,18 @@ pub fn post_if(
     requires { (24 ≤ rows) × (rows ≤ 96) }
     ensures { post_left result chars.new attrs.now ≡ posted_if rows (world t chars.old attrs.now) owned field text.now }
 {
-    let entry = post_to(t, rows, chars, attrs, owned, field, text);
-    let joined = t.changes.join(entry.changes);
-    t.changes = joined;
-    PostAnswer {
-        number: entry.number,
-        state: t,
+    match post_to(t, rows, chars, attrs, owned, field, text) {
+        Ok(changes) => {
+            t.changes = t.changes.join(changes);
+            PostAnswer {
+                number: 0,
+                state: t,
+            }
+        }
+        Err(refusal) => PostAnswer {
+            number: refusal.number(),
+            state: t,
+        },
     }
 }
 

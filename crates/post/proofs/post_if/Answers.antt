@@ -1,9 +1,15 @@
 -- `post_if` meets its contract: the number, and the state with the post's row joined to its own. Assumes nothing.
 use borrow.Author.Rules.{rules}
-use Rattle.post.proofs.Kept.{entered-noted}
+use Rattle.terminal.proofs.Refusals.{not-done}
+use Rattle.post.proofs.Kept.{entered-noted, entered-left}
 use Rattle.post.proofs.post_if.Goals as goal
 
-pub returns : goal.returns
-returns c =
-    let entry = c.post_to-entry in
-    entered-noted c.args.rows c.args.t c.args.chars.now _ c.args.attrs.now c.args.owned c.args.field c.args.text.now c.requires.1 entry.ensures.attrs_after entry.ensures.changes_value c.join-joined.ensures.0 c.join-joined.ensures.1
+pub returns-in-Ok : goal.returns-in-Ok
+returns-in-Ok c =
+    let a = c.args in
+    entered-noted a.rows a.t a.chars.now _ a.attrs.now a.owned a.field a.text.now c.requires.1 c.in-Ok.ensures.left c.in-Ok.ensures.changed c.join-t.ensures.0 c.join-t.ensures.1
+
+pub returns-in-Err : goal.returns-in-Err
+returns-in-Err c =
+    let a = c.args in
+    rw c.number.ensures (entered-left a.rows a.t a.chars.now _ a.attrs.now a.owned a.field a.text.now c.in-Err.ensures.left (not-done c.in-Err.refusal))
