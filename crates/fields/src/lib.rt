@@ -20,34 +20,44 @@ pub fn has_mark(a: u8, highest: u8) -> bool
     is_in(highest, a % 16)
 }
 
-// The first of the cells `from` to `to - 1` whose mark is 1 to `highest`.
+// The first of the cells `from` to `to - 1` whose mark is 1 to `highest`: over rows, within each row over columns, left at the first hit.
 fn first_mark(attrs: &[u8], from: usize, to: usize, highest: u8) -> Option<usize>
     requires { (from ≤ to) × (to ≤ length attrs.now) }
     ensures { result ≡ first_in (is_in highest) (marks attrs.now) from to }
 {
-    let mut i = from;
-    while i < to {
-        if has_mark(attrs[i], highest) {
-            return Some(i);
+    let mut start = from;
+    'rows: loop {
+        if to <= start {
+            break 'rows None;
         }
-        i += 1;
+        let end = to.min(start / 80 * 80 + 80);
+        for cell in start..end {
+            if has_mark(attrs[cell], highest) {
+                break 'rows Some(cell);
+            }
+        }
+        start = end;
     }
-    None
 }
 
-// The last of them.
+// The last of them, from the last row to the first, within each row from the last column.
 fn last_mark(attrs: &[u8], from: usize, to: usize, highest: u8) -> Option<usize>
     requires { (from ≤ to) × (to ≤ length attrs.now) }
     ensures { result ≡ last_in (is_in highest) (marks attrs.now) from to }
 {
-    let mut i = to;
-    while from < i {
-        i -= 1;
-        if has_mark(attrs[i], highest) {
-            return Some(i);
+    let mut end = to;
+    'rows: loop {
+        if end <= from {
+            break 'rows None;
         }
+        let start = from.max((end - 1) / 80 * 80);
+        for cell in (start..end).rev() {
+            if has_mark(attrs[cell], highest) {
+                break 'rows Some(cell);
+            }
+        }
+        end = start;
     }
-    None
 }
 
 // Tab: the first unprotected field start after a cell, else the first of all; no cell is looked at twice.

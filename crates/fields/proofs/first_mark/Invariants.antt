@@ -4,8 +4,11 @@ use Rattle.cells.proofs.Search.{Upto}
 use Rattle.fields.proofs.Scans.{has_mark}
 use Rattle.fields.proofs.first_mark.Given as goal
 
-abbrev pub invariant-loop-i : goal.invariant-loop-i
-invariant-loop-i l = (l.i ≤ l.to) × Upto (has_mark l.highest) 0 l.attrs l.from l.to l.i
+abbrev pub invariant-loop-cell : goal.invariant-loop-cell
+invariant-loop-cell l = Upto (has_mark l.highest) 0 l.attrs l.from l.to l.cell
 
-abbrev pub decreases-loop-i : goal.decreases-loop-i
-decreases-loop-i l = l.to - l.i
+abbrev pub invariant-rows : goal.invariant-rows
+invariant-rows l = (l.start ≤ l.to) × Upto (has_mark l.highest) 0 l.attrs l.from l.to l.start
+
+abbrev pub decreases-rows : goal.decreases-rows
+decreases-rows l = l.to - l.start
