@@ -25,14 +25,8 @@ fn first_mark(attrs: &[u8], from: usize, to: usize, highest: u8) -> Option<usize
     requires { (from ≤ to) × (to ≤ length attrs.now) }
     ensures { result ≡ first_in (is_in highest) (marks attrs.now) from to }
 {
-    let mut i = from;
-    while i < to {
-        if has_mark(attrs[i], highest) {
-            return Some(i);
-        }
-        i += 1;
-    }
-    None
+    let at = attrs[from..to].iter().position(|a| has_mark(*a, highest));
+    at.map(|k| from + k)
 }
 
 // The last of them.
@@ -40,14 +34,8 @@ fn last_mark(attrs: &[u8], from: usize, to: usize, highest: u8) -> Option<usize>
     requires { (from ≤ to) × (to ≤ length attrs.now) }
     ensures { result ≡ last_in (is_in highest) (marks attrs.now) from to }
 {
-    let mut i = to;
-    while from < i {
-        i -= 1;
-        if has_mark(attrs[i], highest) {
-            return Some(i);
-        }
-    }
-    None
+    let at = attrs[from..to].iter().rposition(|a| has_mark(*a, highest));
+    at.map(|k| from + k)
 }
 
 // Tab: the first unprotected field start after a cell, else the first of all; no cell is looked at twice.

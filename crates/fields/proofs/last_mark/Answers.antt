@@ -1,15 +1,17 @@
--- `fields::last_mark` meets its contract: from the cell at hand on none is marked. Assumes nothing.
-use mathlib.Core.Path.{◌∙◌}
+-- `fields::last_mark` meets its contract: the last of the part that is marked, counted from the part's first cell on. Assumes nothing.
+use mathlib.Core.Path.{◌≡◌, ◌∙◌}
+use Prim.Native.Nat.{◌+◌, ◌-◌}
 use native.Mathlib.Omega.{arith}
-use Rattle.cells.proofs.Search.{down-next, down-hit, down-end}
-use Rattle.fields.proofs.Scans.{last-marks}
+use lib.ListN.{take, drop}
+use Rattle.std.proofs.Common.{rules, option_map}
+use Rattle.cells.proofs.Finds.{LastPlace}
+use Rattle.cells.proofs.Search.{last-in-part}
+use Rattle.fields.proofs.Scans.{has_mark, last-marks}
 use Rattle.fields.proofs.last_mark.Goals as goal
 
-pub returns-then-has_mark : goal.returns-then-has_mark
-returns-then-has_mark c = down-hit c.loop-i.invariant.2 (omega arith) (cc) (omega arith) ∙ last-marks _ _ _ _
-
-pub loop-i-preserved : goal.loop-i-preserved
-loop-i-preserved c = (omega arith, omega arith, down-next c.loop-i.invariant.2 (omega arith) (cc) (omega arith))
-
 pub returns : goal.returns
-returns c = down-end c.loop-i.invariant.2 (omega arith) ∙ last-marks _ _ _ _
+returns c =
+    let a = c.args in
+    let h : LastPlace (has_mark a.highest) 0 (take (a.to - a.from) (drop a.from a.attrs.now)) c.rposition-at.result = search rules in
+    let m : c.map.result ≡ option_map (λ k. a.from + k) c.rposition-at.result = search rules in
+    m ∙ last-in-part (has_mark a.highest) 0 a.attrs.now a.from a.to (omega arith) (omega arith) c.rposition-at.result h ∙ last-marks a.highest a.attrs.now a.from a.to
