@@ -4,7 +4,7 @@ use mathlib.Core.Bool.{Bool, true, false}
 use mathlib.Core.Path.{◌≡◌}
 use mathlib.Core.List.{List}
 use lib.ListN.{length, get_or}
-use Rattle.std.specs.Prelude.{Option, Some, None}
+use Rattle.std.specs.Prelude.{Option, Some, None, MatchOption}
 use Rattle.cells.specs.Search.{count_in, count_of}
 
 module _ {A : Type 0} where
@@ -45,3 +45,14 @@ module _ {A : Type 0} where
   abbrev pub FindsNth : (A → Bool) → A → List A → ℕ → Option ℕ → Type 0
   FindsNth p d xs n (Some k) = NthIs p d xs n k
   FindsNth p d xs n None = count_of p xs ≤ n
+
+  -- the same of a whole list, as `position` and `rposition` count it
+  abbrev pub FirstPlace : (A → Bool) → A → List A → Option ℕ → Type 0
+  FirstPlace p d xs o =
+      MatchOption o ((k : ℕ) → k < length xs → p (get_or xs k d) ≡ false)
+      (λ i. (i < length xs) × (p (get_or xs i d) ≡ true) × ((k : ℕ) → k < i → p (get_or xs k d) ≡ false))
+
+  abbrev pub LastPlace : (A → Bool) → A → List A → Option ℕ → Type 0
+  LastPlace p d xs o =
+      MatchOption o ((k : ℕ) → k < length xs → p (get_or xs k d) ≡ false)
+      (λ i. (i < length xs) × (p (get_or xs i d) ≡ true) × ((k : ℕ) → i < k → k < length xs → p (get_or xs k d) ≡ false))

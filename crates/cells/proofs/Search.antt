@@ -10,12 +10,12 @@ use native.Mathlib.Numerals.{add-one}
 use native.Mathlib.Decide.{dec_le}
 use borrow.Author.Tests.{eq-eqb, ne_eqb, eqb-true, eqb-false}
 use lib.Dec.{eqb}
-use lib.ListN.{length, get_or, take, drop, length-take, drop_of_length-le, take-append-drop}
-use lib.Seq.{slice, slice-cons, length-slice, take-take, drop-append-le, length-take-le, drop-cons, take-length, take_all}
+use lib.ListN.{length, get_or, take, drop, length-take, length-drop, drop_of_length-le, take-append-drop}
+use lib.Seq.{get_or-take, get_or-drop, slice, slice-cons, length-slice, take-take, drop-append-le, length-take-le, drop-cons, take-length, take_all}
 use Rattle.std.specs.Option.{option_or}
-use Rattle.std.specs.Prelude.{Option, Some, None}
+use Rattle.std.specs.Prelude.{Option, Some, None, option_map}
 use Rattle.cells.specs.Search.{first_of, last_of, count_of, nth_of, first_in, last_in, count_in}
-use Rattle.cells.proofs.Finds.{NoneIn, NthIs, FindsFirst, FindsLast, FindsNth}
+use Rattle.cells.proofs.Finds.{NoneIn, NthIs, FindsFirst, FindsLast, FindsNth, FirstPlace, LastPlace}
 
 pub not-both : {b : Bool} → b ≡ true → b ≡ false → ⊥
 not-both s t = let z : ◌≡◌ {A = ℕ} 0 1 = cc in omega arith
@@ -418,6 +418,36 @@ module _ {A : Type 0} (p : A → Bool) (d : A) (xs : List A) where
       go (no h) =
           let r = last_found lo (length xs) (omega arith) (sym (last-cut p xs lo hi (omega arith)) ∙ e) in
           (r.low, omega (arith, r.high))
+
+-- ---- a search of a part, counted from its first cell on
+module _ {A : Type 0} (p : A → Bool) (d : A) (xs : List A) (lo hi : ℕ) (order : lo ≤ hi) (fits : hi ≤ length xs) where
+  abbrev part : List A
+  part = take (hi - lo) (drop lo xs)
+
+  part-length : length part ≡ hi - lo
+  part-length = simp (length-take, length-drop) (omega arith)
+
+  part-cell : (k : ℕ) → lo ≤ k → k < hi → p (get_or part (k - lo) d) ≡ p (get_or xs k d)
+  part-cell k a b =
+      let e : lo + (k - lo) ≡ k = omega arith in
+      ap p (get_or-take (hi - lo) (drop lo xs) (k - lo) d (omega arith) ∙ get_or-drop lo xs (k - lo) d ∙ ap (λ (j : ℕ). get_or xs j d) e)
+
+  part-at : (k : ℕ) → k < length part → p (get_or part k d) ≡ p (get_or xs (lo + k) d)
+  part-at k l =
+      let e : lo + k - lo ≡ k = omega arith in
+      ap (λ (j : ℕ). p (get_or part j d)) (sym e) ∙ part-cell (lo + k) (omega arith) (omega (arith, part-length))
+
+  pub first-in-part : (o : Option ℕ) → FirstPlace p d part o → option_map (λ k. lo + k) o ≡ first_in p xs lo hi
+  first-in-part None h = sym (first-is p d xs lo hi fits None (λ j a b. sym (part-cell j a b) ∙ h (j - lo) (omega (arith, part-length))))
+  first-in-part (Some i) h =
+      sym (first-is p d xs lo hi fits (Some (lo + i))
+      (record { low = omega arith; high = omega (arith, part-length, h.0); hit = sym (part-at i h.0) ∙ h.1; none = λ j a b. sym (part-cell j a (omega (arith, part-length, h.0))) ∙ h.2 (j - lo) (omega arith) }))
+
+  pub last-in-part : (o : Option ℕ) → LastPlace p d part o → option_map (λ k. lo + k) o ≡ last_in p xs lo hi
+  last-in-part None h = sym (last-is p d xs lo hi fits None (λ j a b. sym (part-cell j a b) ∙ h (j - lo) (omega (arith, part-length))))
+  last-in-part (Some i) h =
+      sym (last-is p d xs lo hi fits (Some (lo + i))
+      (record { low = omega arith; high = omega (arith, part-length, h.0); hit = sym (part-at i h.0) ∙ h.1; none = λ j a b. sym (part-cell j (omega arith) b) ∙ h.2 (j - lo) (omega arith) (omega (arith, part-length)) }))
 
 -- ---- the answers depend on the tests' values in the range alone
 module _ {A B : Type 0} (p : A → Bool) (d : A) (xs : List A) (q : B → Bool) (e : B) (ys : List B) where

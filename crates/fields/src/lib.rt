@@ -20,7 +20,7 @@ pub fn has_mark(a: u8, highest: u8) -> bool
     is_in(highest, a % 16)
 }
 
-// The first of the cells `from` to `to - 1` whose mark is 1 to `highest`: over rows, within each row over columns, left at the first hit.
+// The first of the cells `from` to `to - 1` whose mark is 1 to `highest`. Over rows, within each row over columns, left by a label at the first hit: document 01 names this form.
 fn first_mark(attrs: &[u8], from: usize, to: usize, highest: u8) -> Option<usize>
     requires { (from ≤ to) × (to ≤ length attrs.now) }
     ensures { result ≡ first_in (is_in highest) (marks attrs.now) from to }
