@@ -10,7 +10,7 @@ ghost use Rattle.fields.specs.Fields.{mark_of, marks, is_in, kind_at, unprotecte
 pub fn is_in(highest: u8, mark: u8) -> bool
     ensures { result ≡ is_in highest mark }
 {
-    1 <= mark && mark <= highest
+    (1..=highest).contains(&mark)
 }
 
 // Whether an attribute byte's mark is 1 to `highest`.
@@ -66,10 +66,7 @@ pub fn next_start(attrs: &[u8], cell: usize) -> Option<usize>
     ensures { result ≡ next_start (marks attrs.now) cell }
 {
     let after = first_mark(attrs, cell + 1, attrs.len(), 3);
-    match after {
-        Some(k) => Some(k),
-        None => first_mark(attrs, 0, cell + 1, 3),
-    }
+    after.or_else(|| first_mark(attrs, 0, cell + 1, 3))
 }
 
 // Back tab: the last unprotected field start before a cell, else the last of all; no cell is looked at twice.
@@ -78,10 +75,7 @@ pub fn prev_start(attrs: &[u8], cell: usize) -> Option<usize>
     ensures { result ≡ prev_start (marks attrs.now) cell }
 {
     let before = last_mark(attrs, 0, cell, 3);
-    match before {
-        Some(k) => Some(k),
-        None => last_mark(attrs, cell, attrs.len(), 3),
-    }
+    before.or_else(|| last_mark(attrs, cell, attrs.len(), 3))
 }
 
 // Home: the first field whose mark is 1 to `highest`.
@@ -109,16 +103,11 @@ pub fn kind_at(attrs: &[u8], cell: usize) -> u8
     requires { cell < length attrs.now }
     ensures { result ≡ kind_at (marks attrs.now) cell }
 {
-    let start = cell / 80 * 80;
-    let mut i = cell + 1;
-    while start < i {
-        i -= 1;
-        let mark = attrs[i] % 16;
-        if is_in(5, mark) {
-            return mark;
-        }
+    let at = last_mark(attrs, cell / 80 * 80, cell + 1, 5);
+    match at {
+        Some(i) => attrs[i] % 16,
+        None => 0,
     }
-    0
 }
 
 // Whether a cell is unprotected.
@@ -135,14 +124,7 @@ pub fn field_end(attrs: &[u8], cell: usize) -> usize
     ensures { result ≡ field_end (marks attrs.now) cell }
 {
     let end = cell / 80 * 80 + 80;
-    let mut i = cell + 1;
-    while i < end {
-        if has_mark(attrs[i], 5) {
-            return i;
-        }
-        i += 1;
-    }
-    end
+    first_mark(attrs, cell + 1, end, 5).unwrap_or(end)
 }
 
 // How many of the 16 cells from `from` on have a mark 1 to 3. No early exit: the loop becomes vector code.
@@ -168,7 +150,7 @@ pub fn nth_field(attrs: &[u8], n: usize) -> Option<usize>
     let mut left = n;
     let mut i = 0;
     while i < attrs.len() {
-        let end = cells::least(i + 16, attrs.len());
+        let end = (i + 16).min(attrs.len());
         while i < end {
             if has_mark(attrs[i], 3) {
                 if left == 0 {
@@ -219,19 +201,11 @@ pub fn row_under_text(chars: &[u8], rows: usize) -> usize
     requires { 0 < rows }
     ensures { result ≡ row_under_text rows chars.now }
 {
-    let mut i = chars.len();
-    while 0 < i {
-        i -= 1;
-        let v = chars[i];
-        if v != 32 {
-            let under = i / 80 + 1;
-            if under < rows {
-                return under;
-            }
-            return rows - 1;
-        }
+    let last = chars.iter().rposition(|v| *v != 32);
+    match last {
+        Some(i) => (i / 80 + 1).min(rows - 1),
+        None => 0,
     }
-    0
 }
 
 // The last non-blank of the cells `from` to `to - 1`.
@@ -239,11 +213,8 @@ pub fn last_text(chars: &[u8], from: usize, to: usize) -> Option<usize>
     requires { to ≤ length chars.now }
     ensures { result ≡ last_in non_blank chars.now from to }
 {
-    let mut i = to;
-    while from < i {
-        i -= 1;
-        let v = chars[i];
-        if v != 32 {
+    for i in (from..to).rev() {
+        if chars[i] != 32 {
             return Some(i);
         }
     }

@@ -6,11 +6,11 @@ use borrow.Author.Tests.{eq-eqb, ne_eqb}
 use Rattle.cells.proofs.Search.{down-next, down-hit, down-end}
 use Rattle.fields.proofs.last_text.Goals as goal
 
-pub returns-then-v-ne32 : goal.returns-then-v-ne32
-returns-then-v-ne32 c = down-hit c.loop-i.invariant.1 (omega arith) (ap not (ne_eqb _ _ c.if-v-ne32.true)) (omega arith)
+pub returns-then-chars-i-ne32 : goal.returns-then-chars-i-ne32
+returns-then-chars-i-ne32 c = down-hit c.loop-i.invariant (omega arith) (ap not (ne_eqb _ _ c.if-chars-i-ne32.true)) (omega arith)
 
 pub loop-i-preserved : goal.loop-i-preserved
-loop-i-preserved c = (omega arith, down-next c.loop-i.invariant.1 (omega arith) (ap not (eq-eqb _ _ c.if-v-ne32.false)) (omega arith))
+loop-i-preserved c = down-next c.loop-i.invariant (omega arith) (ap not (eq-eqb _ _ c.if-chars-i-ne32.false)) (omega arith)
 
 pub returns : goal.returns
-returns c = down-end c.loop-i.invariant.1 (omega arith)
+returns c = down-end c.loop-i.invariant (omega arith)

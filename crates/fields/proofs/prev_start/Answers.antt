@@ -1,11 +1,16 @@
 -- `fields::prev_start` meets its contract: what is not found before the cell is the last from it on. Assumes nothing.
-use mathlib.Core.Path.{sym, ◌∙◌}
+use mathlib.Core.Path.{◌≡◌, ◌∙◌}
+use lib.ListN.{length}
 use native.Mathlib.Omega.{arith}
-use Rattle.fields.proofs.Scans.{prev-before, prev-around}
+use Rattle.std.proofs.Common.{rules}
+use Rattle.std.specs.Option.{option_or}
+use Rattle.cells.specs.Search.{last_in}
+use Rattle.fields.specs.Fields.{marks, is_in}
+use Rattle.fields.proofs.Scans.{prev-of}
 use Rattle.fields.proofs.prev_start.Goals as goal
 
-pub returns-in-Some : goal.returns-in-Some
-returns-in-Some c = prev-before _ _ (sym c.last_mark-before.ensures ∙ c.in-Some.is)
-
-pub returns-in-None : goal.returns-in-None
-returns-in-None c = c.last_mark.ensures ∙ prev-around _ _ (omega arith) (sym c.last_mark-before.ensures ∙ c.in-None.is)
+pub returns : goal.returns
+returns c =
+    let a = c.args in
+    let o : c.or_else.result ≡ option_or c.last_mark-before.result (last_in (is_in 3) (marks a.attrs.now) a.cell (length a.attrs.now)) = search rules in
+    o ∙ prev-of a.attrs.now a.cell (omega arith) c.last_mark-before.result c.last_mark-before.ensures

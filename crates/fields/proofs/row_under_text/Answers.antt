@@ -1,25 +1,19 @@
--- `fields::row_under_text` meets its contract: from the cell at hand on all is blank. Assumes nothing.
-use mathlib.Core.Bool.{not}
-use mathlib.Core.Path.{ap}
-use native.Mathlib.Omega.{arith}
-use borrow.Author.Tests.{eq-eqb}
-use Rattle.cells.proofs.Search.{down-next, down-end}
-use Rattle.fields.specs.Fields.{row_under, row_under_text}
-use Rattle.fields.proofs.Scans.{under-hit}
+-- `fields::row_under_text` meets its contract: the last cell that is not blank has its row. Assumes nothing.
+use mathlib.Core.Path.{sym, ap, ◌∙◌}
+use Rattle.std.proofs.Common.{rules}
+use Rattle.cells.proofs.Finds.{LastPlace}
+use Rattle.cells.proofs.Search.{last-in-whole}
+use Rattle.fields.specs.Fields.{non_blank, row_under, row_under_text}
 use Rattle.fields.proofs.row_under_text.Goals as goal
 
-pub returns-then-under-rows : goal.returns-then-under-rows
+pub returns-in-Some : goal.returns-in-Some
 unfolding row_under_text
-returns-then-under-rows c = omega (arith, under-hit c.args.rows c.loop-i.invariant.1 (omega arith) c.if-v-ne32.true)
+returns-in-Some c =
+    let h : LastPlace non_blank 0 c.args.chars.now c.rposition-last.result = search rules in
+    c.min.ensures ∙ ap (row_under c.args.rows) (sym c.in-Some.is ∙ last-in-whole non_blank 0 c.args.chars.now c.rposition-last.result h)
 
-pub returns-then-v-ne32 : goal.returns-then-v-ne32
+pub returns-in-None : goal.returns-in-None
 unfolding row_under_text
-returns-then-v-ne32 c = omega (arith, under-hit c.args.rows c.loop-i.invariant.1 (omega arith) c.if-v-ne32.true)
-
-pub loop-i-preserved : goal.loop-i-preserved
-unfolding row_under_text
-loop-i-preserved c = (omega arith, down-next c.loop-i.invariant.1 (omega arith) (ap not (eq-eqb _ _ c.if-v-ne32.false)) (omega arith))
-
-pub returns : goal.returns
-unfolding row_under_text
-returns c = ap (row_under _) (down-end c.loop-i.invariant.1 (omega arith))
+returns-in-None c =
+    let h : LastPlace non_blank 0 c.args.chars.now c.rposition-last.result = search rules in
+    ap (row_under c.args.rows) (sym c.in-None.is ∙ last-in-whole non_blank 0 c.args.chars.now c.rposition-last.result h)
