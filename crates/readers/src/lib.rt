@@ -5,14 +5,15 @@ ghost use Rattle.std.specs.Prelude.{◌≡◌, ◌||◌, ◌+◌, ◌*◌, ◌/�
 ghost use Rattle.fields.specs.Fields.{marks};
 ghost use Rattle.replies.specs.Replies.{field_text};
 ghost use Rattle.terminal.specs.State.{world};
+ghost use Rattle.terminal.specs.Numbers.{answered};
 ghost use Rattle.post.specs.Posts.{post_left};
 ghost use Rattle.readers.specs.Owners.{is_table, owns, posted_as, read_left, read_back_of};
-ghost use Rattle.readers.specs.Field.{early_refusal, read_in};
+ghost use Rattle.readers.specs.Field.{early_refusal, read_in, written_left};
 
 use post::PostAnswer;
-use terminal::{Size, Terminal};
+use terminal::{Refusal, Size, Terminal};
 
-// The number, and how many bytes of the text are written.
+// The number, and how many bytes of the text are written. A number stays a byte, as document 01 gives it.
 #[derive(Clone, Copy)]
 pub struct ReadAnswer {
     pub number: u8,
@@ -66,7 +67,7 @@ pub fn post_as_on(
 {
     if !is_table(owners) {
         return PostAnswer {
-            number: 1,
+            number: Refusal::Size.number(),
             state: t,
         };
     }
@@ -97,34 +98,25 @@ fn is_readable(t: Terminal) -> bool
     t.format
 }
 
-// The number of a reading back, by the tests that do not look at the field.
-fn refuse_early(t: Terminal, rows: usize, chars: &[u8], attrs: &[u8], owners: &[u8]) -> u8
+// Refuses a reading back by the tests that do not look at the field.
+fn refuse_early(
+    t: Terminal,
+    rows: usize,
+    chars: &[u8],
+    attrs: &[u8],
+    owners: &[u8],
+) -> Result<(), Refusal>
     requires { (24 ≤ rows) × (rows ≤ 96) }
-    ensures { result ≡ early_refusal rows (world t chars.now attrs.now) owners.now }
+    ensures { answered result ≡ early_refusal rows (world t chars.now attrs.now) owners.now }
 {
-    if !terminal::is_sized(rows, chars, attrs) {
-        return 1;
-    }
     if !is_table(owners) {
-        return 1;
+        return Err(Refusal::Size);
     }
-    if !t.is_good(rows) {
-        return 2;
-    }
+    t.check(rows, chars, attrs)?;
     if !is_readable(t) {
-        return 8;
+        return Err(Refusal::Format);
     }
-    0
-}
-
-// A reading back that writes nothing.
-fn read_none(number: u8) -> ReadAnswer
-    ensures { (result.number ≡ number) × (result.written ≡ 0) }
-{
-    ReadAnswer {
-        number: number,
-        written: 0,
-    }
+    Ok(())
 }
 
 // The cells of the field that starts at cell `k`, blanks too: a part of the memory, not copied.
@@ -136,22 +128,47 @@ fn field_part<'a>(chars: &'a [u8], attrs: &[u8], k: usize) -> &'a [u8]
     &chars[k..end]
 }
 
-// The field that starts at cell `k`, from the first byte of `out` on, for one who owns it or does not.
-fn read_field(chars: &[u8], attrs: &[u8], owned: bool, k: usize, out: &mut [u8]) -> ReadAnswer
+// The field that starts at cell `k`, from the first byte of `out` on, for one who owns it or does not: how many bytes, or why it is refused.
+fn read_field(
+    chars: &[u8],
+    attrs: &[u8],
+    owned: bool,
+    k: usize,
+    out: &mut [u8],
+) -> Result<usize, Refusal>
     requires { (k / 80 * 80 + 80 ≤ length attrs.now) × (length chars.now ≡ length attrs.now) }
-    ensures { read_left result out.new ≡ read_in (field_text chars.now (marks attrs.now) k) owned (Some k) out.old }
+    ensures { written_left result out.new ≡ read_in (field_text chars.now (marks attrs.now) k) owned (Some k) out.old }
 {
     if !owned {
-        return read_none(13);
+        return Err(Refusal::Owner);
     }
     let text = field_part(chars, attrs, k);
     if out.len() < text.len() {
-        return read_none(7);
+        return Err(Refusal::Room);
     }
     cells::write_at(out, 0, text);
-    ReadAnswer {
-        number: 0,
-        written: text.len(),
+    Ok(text.len())
+}
+
+// A reader's reading back: how many bytes, or why it is refused.
+fn read_text(
+    t: Terminal,
+    rows: usize,
+    chars: &[u8],
+    attrs: &[u8],
+    owners: &[u8],
+    reader: u8,
+    field: usize,
+    out: &mut [u8],
+) -> Result<usize, Refusal>
+    requires { (24 ≤ rows) × (rows ≤ 96) }
+    ensures { written_left result out.new ≡ read_back_of rows (world t chars.now attrs.now) owners.now reader field out.old }
+{
+    refuse_early(t, rows, chars, attrs, owners)?;
+    let owned = owns_field(owners, reader, field);
+    match fields::nth_field(attrs, field) {
+        Some(k) => read_field(chars, attrs, owned, k, out),
+        None => Err(Refusal::Field),
     }
 }
 
@@ -169,15 +186,15 @@ pub fn read_back_on(
     requires { (24 ≤ rows) × (rows ≤ 96) }
     ensures { read_left result out.new ≡ read_back_of rows (world t chars.now attrs.now) owners.now reader field out.old }
 {
-    let number = refuse_early(t, rows, chars, attrs, owners);
-    if number != 0 {
-        return read_none(number);
-    }
-    let owned = owns_field(owners, reader, field);
-    let start = fields::nth_field(attrs, field);
-    match start {
-        Some(k) => read_field(chars, attrs, owned, k, out),
-        None => read_none(9),
+    match read_text(t, rows, chars, attrs, owners, reader, field, out) {
+        Ok(written) => ReadAnswer {
+            number: 0,
+            written: written,
+        },
+        Err(refusal) => ReadAnswer {
+            number: refusal.number(),
+            written: 0,
+        },
     }
 }
 

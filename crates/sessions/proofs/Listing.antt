@@ -1,10 +1,10 @@
 -- Records of a part of a session: how bytes split into records, and the steps of the loop over them. Assumes nothing.
 use Prim.Native.Nat.{ℕ, zero, suc, ◌+◌, ◌-◌, ◌≤◌, ◌<◌, min}
 use mathlib.Core.Path.{◌≡◌, refl, sym, ap, ◌∙◌}
-use mathlib.Core.List.{List, [], ◌∷◌}
+use mathlib.Core.List.{List, [], ◌∷◌, ◌++◌}
 use native.Mathlib.Omega.{arith}
 use lib.ListN.{length, take, drop, length-take, length-drop}
-use lib.Seq.{drop-drop}
+use lib.Seq.{take_at, drop_at}
 use borrow.Author.Tests.{le-leb, lt-leb}
 use Rattle.cells.specs.Memory.{written}
 use Rattle.terminal.specs.State.{World}
@@ -76,33 +76,21 @@ module _ (rows : ℕ) (w : World) (rest : List ℕ) (taken to number : ℕ) (lin
   unfolding batch_on
   no-more-room h l = rw (split-more rest h, lt-leb (to + 63) (length lines) l)
 
--- one record, from byte `at` to byte `end`
-module _ (rows : ℕ) (w : World) (bytes : List ℕ) (at to number : ℕ) (lines : List ℕ) {end : ℕ} (e : end ≡ at + min 84 (length bytes - at)) where
-  rest-length : length (drop at bytes) ≡ length bytes - at
-  rest-length = length-drop at bytes
+-- one record, the first of the bytes left
+module _ (rows : ℕ) (w : World) (rest r more : List ℕ) (taken to number : ℕ) (lines : List ℕ) (e : rest ≡ r ++ more) (l : length r ≡ min 84 (length rest)) where
+  record_is : take 84 rest ≡ r
+  record_is = sym (take-least 84 rest) ∙ ap (λ (k : ℕ). take k rest) (sym l) ∙ ap (take (length r)) e ∙ take_at r more (length r) refl
 
-  least-is : min 84 (length (drop at bytes)) ≡ end - at
-  least-is = omega (arith, rest-length)
+  others-are : drop 84 rest ≡ more
+  others-are = sym (drop-least 84 rest) ∙ ap (λ (k : ℕ). drop k rest) (sym l) ∙ ap (drop (length r)) e ∙ drop_at r more (length r) refl
 
-  record_is : take (end - at) (drop at bytes) ≡ take 84 (drop at bytes)
-  record_is = ap (λ (k : ℕ). take k (drop at bytes)) (sym least-is) ∙ take-least 84 (drop at bytes)
-
-  rest-is : drop end bytes ≡ drop 84 (drop at bytes)
-  rest-is =
-      let s : at + min 84 (length (drop at bytes)) ≡ end = omega (arith, rest-length) in
-      sym (ap (λ (k : ℕ). drop k bytes) s) ∙ sym (drop-drop (min 84 (length (drop at bytes))) at bytes) ∙ drop-least 84 (drop at bytes)
-
-  taken_is : end ≡ at + length (take 84 (drop at bytes))
-  taken_is = omega (arith, length-take 84 (drop at bytes), rest-length)
-
-  pub listing-turn : at < length bytes → to + 63 ≤ length lines
-      → {x : Ran} → x ≡ record_ran rows w (take (end - at) (drop at bytes))
+  pub listing-turn : 0 < length rest → to + 63 ≤ length lines
+      → {x : Ran} → x ≡ record_ran rows w r
       → {n : ℕ} → n ≡ next number
       → {i : ℕ} → i ≡ to + length (three number x.answer x.replied)
       → {ls : List ℕ} → ls ≡ written lines to (three number x.answer x.replied)
-      → batch_on rows (split (drop end bytes)) end i n x.world ls ≡ batch_on rows (split (drop at bytes)) at to number w lines
-  listing-turn h l {x} ex {n} en {i} ei {ls} el =
-      let r = take 84 (drop at bytes) in
-      let F = onward rows w (drop at bytes) at to number lines r in
-      let p : batch_on rows (split (drop end bytes)) end i n x.world ls ≡ F x = rw (rest-is, ← taken_is, en, ei, el) in
-      p ∙ ap F (ex ∙ ap (record_ran rows w) record_is) ∙ step rows w (drop at bytes) at to number lines (omega (arith, rest-length)) l
+      → batch_on rows (split more) (taken + length r) i n x.world ls ≡ batch_on rows (split rest) taken to number w lines
+  listing-turn h room {x} ex {n} en {i} ei {ls} el =
+      let F = onward rows w rest taken to number lines in
+      let p : batch_on rows (split more) (taken + length r) i n x.world ls ≡ F r x = rw (others-are, en, ei, el) in
+      p ∙ ap (F r) ex ∙ ap (λ (q : List ℕ). F q (record_ran rows w q)) (sym record_is) ∙ step rows w rest taken to number lines h room

@@ -51,11 +51,7 @@ fn write_three(lines: &mut [u8], at: usize, a: u64, b: u64, c: u64) -> usize
 pub fn next(number: u64) -> u64
     ensures { result ≡ Session·next number }
 {
-    if number < 18446744073709551615 {
-        number + 1
-    } else {
-        number
-    }
+    number.saturating_add(1)
 }
 
 // The records one after the other, with the reply buffer lent: it has room for the longest reply, and what it holds does not matter.
@@ -75,27 +71,20 @@ fn run_each(
 {
     let mut u = t;
     let mut n = number;
-    let mut at = 0;
+    let mut taken = 0;
     let mut to = 0;
-    while at < bytes.len() {
+    for record in bytes.chunks(84) {
         if lines.len() - to < 63 {
-            return LinesAnswer {
-                taken: at,
-                written: to,
-                number: n,
-                state: u,
-            };
+            break;
         }
-        let end = at + cells::least(84, bytes.len() - at);
-        let a = records::run_on(u, rows, chars, attrs, &bytes[at..end], reply, is_plain);
+        let a = records::run_on(u, rows, chars, attrs, record, reply, is_plain);
         to = write_three(lines, to, n, a.answer as u64, a.replied as u64);
-        let state = a.state;
-        u = state;
+        u = a.state;
         n = next(n);
-        at = end;
+        taken += record.len();
     }
     LinesAnswer {
-        taken: at,
+        taken: taken,
         written: to,
         number: n,
         state: u,

@@ -10,7 +10,7 @@ use Rattle.readers.proofs.Readings.{table-long}
 use Rattle.readers.proofs.post_as_on.Goals as goal
 
 pub returns-then-not-is_table : goal.returns-then-not-is_table
-returns-then-not-is_table c = let a = c.args in untabled a.rows (world a.t a.chars.now a.attrs.now) a.owners.now a.reader a.field a.text.now (sym c.is_table.ensures ∙ c.if-not-is_table.true)
+returns-then-not-is_table c = let a = c.args in rw c.number.ensures (untabled a.rows (world a.t a.chars.now a.attrs.now) a.owners.now a.reader a.field a.text.now (sym c.is_table.ensures ∙ c.if-not-is_table.true))
 
 pub owns_field-owned-requires : goal.owns_field-owned-requires
 owns_field-owned-requires c = table-long c.args.owners.now (sym c.is_table.ensures ∙ c.if-not-is_table.false)
