@@ -67,8 +67,8 @@ returns-then-pending-eq3-clause-reply_after c =
     let w = world a.t a.chars.now a.attrs.now in
     rw (pending-status w c.if-pending-eq3.true) (rw (← c.report_status-message.ensures) c.write_at-then-pending-eq3.ensures)
 
-pub send_block-requires-clause-fact_2 : goal.send_block-requires-clause-fact_2
-send_block-requires-clause-fact_2 c =
+pub send_block-requires-clause-room : goal.send_block-requires-clause-room
+send_block-requires-clause-room c =
     let a = c.args in
     let w = world a.t a.chars.now a.attrs.now in
     let e = ap length (pending-block w c.if-pending-eq4.true) in
@@ -79,13 +79,13 @@ pub returns-then-pending-eq4-clause-value : goal.returns-then-pending-eq4-clause
 returns-then-pending-eq4-clause-value c =
     let a = c.args in
     let w = world a.t a.chars.now a.attrs.now in
-    rw (pending-block w c.if-pending-eq4.true) c.send_block.ensures.value
+    rw (pending-block w c.if-pending-eq4.true) c.send_block.ensures.end
 
 pub returns-then-pending-eq4-clause-reply_after : goal.returns-then-pending-eq4-clause-reply_after
 returns-then-pending-eq4-clause-reply_after c =
     let a = c.args in
     let w = world a.t a.chars.now a.attrs.now in
-    rw (pending-block w c.if-pending-eq4.true) c.send_block.ensures.reply_after
+    rw (pending-block w c.if-pending-eq4.true) c.send_block.ensures.sent
 
 pub returns-clause-value : goal.returns-clause-value
 returns-clause-value c =
