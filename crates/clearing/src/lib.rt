@@ -1,4 +1,4 @@
-// Clearing with format on: a cleared cell becomes blank and keeps its mark, with enhancement 0. Each clear walks on from its first cell, once.
+// Clearing with format on: a cleared cell becomes blank and keeps its mark, with enhancement 0.
 #![tactic(auto)]
 
 ghost use Rattle.std.specs.Prelude.{◌≡◌, ◌+◌, ◌*◌, ◌/◌, ◌≤◌, ◌<◌, ltb, length, set, get_or};
@@ -11,22 +11,20 @@ fn clear_cell(chars: &mut [u8], attrs: &mut [u8], cell: usize)
     ensures { (chars.new ≡ set chars.old cell 32) × (attrs.new ≡ set attrs.old cell (stripped (get_or attrs.old cell 0))) }
 {
     chars[cell] = 32;
-    attrs[cell] = attrs[cell] % 16;
+    attrs[cell] %= 16;
 }
 
-// The unprotected cells from `from` on.
+// The unprotected cells from `from` on, in one walk.
 pub fn clear_unprotected(chars: &mut [u8], attrs: &mut [u8], from: usize)
     requires { (from < length chars.old) × (length attrs.old ≡ length chars.old) }
     ensures { (chars.new ≡ changed_where chars.old from (unprotected (marks attrs.old)) (λ v. 32)) × (attrs.new ≡ changed_where attrs.old from (unprotected (marks attrs.old)) stripped) }
 {
     let mut kind = fields::kind_at(attrs, from);
-    let mut i = from;
-    while i < chars.len() {
+    for i in from..chars.len() {
         kind = fields::kind_after(i, kind, attrs[i] % 16);
         if fields::is_in(3, kind) {
             clear_cell(chars, attrs, i);
         }
-        i += 1;
     }
 }
 
@@ -35,13 +33,8 @@ pub fn clear_rest(chars: &mut [u8], attrs: &mut [u8], cell: usize)
     requires { (cell / 80 * 80 + 80 ≤ length chars.old) × (length attrs.old ≡ length chars.old) }
     ensures { (chars.new ≡ changed_where chars.old cell (λ k. ltb k (field_end (marks attrs.old) cell)) (λ v. 32)) × (attrs.new ≡ changed_where attrs.old cell (λ k. ltb k (field_end (marks attrs.old) cell)) stripped) }
 {
-    let end = cell / 80 * 80 + 80;
-    let mut i = cell;
-    loop {
+    let end = fields::field_end(attrs, cell);
+    for i in cell..end {
         clear_cell(chars, attrs, i);
-        i += 1;
-        if i == end || fields::has_mark(attrs[i], 5) {
-            return;
-        }
     }
 }

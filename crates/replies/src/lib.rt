@@ -5,7 +5,7 @@ ghost use Rattle.std.specs.Prelude.{◌≡◌, ◌+◌, ◌*◌, ◌/◌, ◌%�
 ghost use Rattle.cells.specs.Search.{last_in};
 ghost use Rattle.cells.specs.Memory.{written};
 ghost use Rattle.fields.specs.Fields.{mark_of, marks, is_in, field_end, non_blank};
-ghost use Rattle.replies.specs.Replies.{cursor_reply, bit, status_reply, field_text, fields_reply, through, row_reply, block_reply};
+ghost use Rattle.replies.specs.Replies.{cursor_reply, status_reply, field_text, fields_reply, through, row_reply, block_reply};
 
 fn digit(n: usize) -> u8
     ensures { result ≡ 48 + n % 10 }
@@ -33,17 +33,11 @@ pub fn report_cursor(col: usize, row: usize, letter: u8) -> [u8; 12]
     ]
 }
 
-fn bit_of(b: bool) -> u8
-    ensures { result ≡ bit b }
-{
-    if b { 1 } else { 0 }
-}
-
 // ESC, byte 92, the three flags, six bytes 48, CR.
 pub fn report_status(format: bool, insert: bool, lock: bool) -> [u8; 10]
     ensures { result ≡ status_reply format insert lock }
 {
-    let flags = 48 + bit_of(format) + 2 * bit_of(insert) + 4 * bit_of(lock);
+    let flags = 48 + format as u8 + 2 * (insert as u8) + 4 * (lock as u8);
     [27, 92, flags, 48, 48, 48, 48, 48, 48, 13]
 }
 
@@ -54,20 +48,18 @@ fn is_sent(a: u8) -> bool
     fields::has_mark(a, 4)
 }
 
-// How many bytes all fields of marks 1 to 4 send, with their separators.
+// How many bytes all fields of marks 1 to 4 send, with their separators. A `while`, since a field is passed in one step.
 fn measure_fields(chars: &[u8], attrs: &[u8]) -> usize
     requires { (length chars.now ≡ length attrs.now) × (length attrs.now ≤ 7680) × (length attrs.now % 80 ≡ 0) }
     ensures { result ≡ length (fields_reply chars.now attrs.now) }
 {
     let mut n = 1;
-    let mut some = false;
     let mut i = 0;
     while i < attrs.len() {
         if is_sent(attrs[i]) {
-            if some {
+            if 1 < n {
                 n += 1;
             }
-            some = true;
             let end = fields::field_end(attrs, i);
             n += end - i;
             i = end;
@@ -78,45 +70,33 @@ fn measure_fields(chars: &[u8], attrs: &[u8]) -> usize
     n
 }
 
-// The field that starts at cell `from`, whole, from byte `at` of the reply on; the cell past its last. Each cell is looked at once.
+// The field that starts at cell `from`, whole, from byte `at` of the reply on; the cell past its last.
 fn send_field(chars: &[u8], attrs: &[u8], from: usize, reply: &mut [u8], at: usize) -> usize
-    requires fact_1 { (length chars.now ≡ length attrs.now) × (from / 80 * 80 + 80 ≤ length attrs.now) }
-    requires fact_2 { at + length (field_text chars.now (marks attrs.now) from) ≤ length reply.old }
-    ensures value { result ≡ field_end (marks attrs.now) from }
-    ensures reply_after { reply.new ≡ written reply.old at (field_text chars.now (marks attrs.now) from) }
+    requires memory { (length chars.now ≡ length attrs.now) × (from / 80 * 80 + 80 ≤ length attrs.now) }
+    requires room { at + length (field_text chars.now (marks attrs.now) from) ≤ length reply.old }
+    ensures past { result ≡ field_end (marks attrs.now) from }
+    ensures sent { reply.new ≡ written reply.old at (field_text chars.now (marks attrs.now) from) }
 {
-    let end = from / 80 * 80 + 80;
-    reply[at] = chars[from];
-    let mut n = at + 1;
-    let mut i = from + 1;
-    while i < end {
-        if fields::has_mark(attrs[i], 5) {
-            return i;
-        }
-        reply[n] = chars[i];
-        n += 1;
-        i += 1;
-    }
-    i
+    let end = fields::field_end(attrs, from);
+    cells::write_at(reply, at, &chars[from..end]);
+    end
 }
 
 // All fields of marks 1 to 4, from byte `at` of the reply on; the place past the last byte.
 fn send_fields(chars: &[u8], attrs: &[u8], reply: &mut [u8], at: usize) -> usize
-    requires fact_1 { (length chars.now ≡ length attrs.now) × (length attrs.now % 80 ≡ 0) }
-    requires fact_2 { at + length (fields_reply chars.now attrs.now) ≤ length reply.old }
-    ensures value { result ≡ at + length (fields_reply chars.now attrs.now) }
-    ensures reply_after { reply.new ≡ written reply.old at (fields_reply chars.now attrs.now) }
+    requires memory { (length chars.now ≡ length attrs.now) × (length attrs.now % 80 ≡ 0) }
+    requires room { at + length (fields_reply chars.now attrs.now) ≤ length reply.old }
+    ensures end { result ≡ at + length (fields_reply chars.now attrs.now) }
+    ensures sent { reply.new ≡ written reply.old at (fields_reply chars.now attrs.now) }
 {
     let mut n = at;
-    let mut some = false;
     let mut i = 0;
     while i < attrs.len() {
         if is_sent(attrs[i]) {
-            if some {
+            if at < n {
                 reply[n] = 31;
                 n += 1;
             }
-            some = true;
             let end = send_field(chars, attrs, i, reply, n);
             n += end - i;
             i = end;
@@ -143,10 +123,10 @@ fn row_through(chars: &[u8], row: usize) -> usize
 
 // The row through its last non-blank, CR, from byte `at` of the reply on; the place past the last byte.
 fn send_row(chars: &[u8], row: usize, reply: &mut [u8], at: usize) -> usize
-    requires fact_1 { (row < 96) × (row * 80 + 80 ≤ length chars.now) }
-    requires fact_2 { at + length (row_reply chars.now row) ≤ length reply.old }
-    ensures value { result ≡ at + length (row_reply chars.now row) }
-    ensures reply_after { reply.new ≡ written reply.old at (row_reply chars.now row) }
+    requires row { (row < 96) × (row * 80 + 80 ≤ length chars.now) }
+    requires room { at + length (row_reply chars.now row) ≤ length reply.old }
+    ensures end { result ≡ at + length (row_reply chars.now row) }
+    ensures sent { reply.new ≡ written reply.old at (row_reply chars.now row) }
 {
     let from = row * 80;
     let to = row_through(chars, row);
@@ -176,10 +156,10 @@ pub fn send_block(
     reply: &mut [u8],
     at: usize,
 ) -> usize
-    requires fact_1 { (row < 96) × (row * 80 + 80 ≤ length chars.now) × (length chars.now ≡ length attrs.now) × (length attrs.now % 80 ≡ 0) }
-    requires fact_2 { at + length (block_reply format chars.now attrs.now row) ≤ length reply.old }
-    ensures value { result ≡ at + length (block_reply format chars.now attrs.now row) }
-    ensures reply_after { reply.new ≡ written reply.old at (block_reply format chars.now attrs.now row) }
+    requires memory { (row < 96) × (row * 80 + 80 ≤ length chars.now) × (length chars.now ≡ length attrs.now) × (length attrs.now % 80 ≡ 0) }
+    requires room { at + length (block_reply format chars.now attrs.now row) ≤ length reply.old }
+    ensures end { result ≡ at + length (block_reply format chars.now attrs.now row) }
+    ensures sent { reply.new ≡ written reply.old at (block_reply format chars.now attrs.now row) }
 {
     if format {
         return send_fields(chars, attrs, reply, at);

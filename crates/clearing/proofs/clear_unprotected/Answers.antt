@@ -11,30 +11,26 @@ use Rattle.clearing.proofs.clear_unprotected.Goals as goal
 use Rattle.clearing.proofs.clear_unprotected.Goals.{else-is_in, then-is_in}
 
 pub loop-i-init : goal.loop-i-init
-loop-i-init c = (omega arith, omega arith, onward-start c.kind_at-kind.ensures, none refl, none refl)
+loop-i-init c = (onward-start c.kind_at-kind.ensures, none refl, none refl)
 
 pub loop-i-preserved : goal.loop-i-preserved
 loop-i-preserved c =
     let l = c.loop-i in
-    let a = l.invariant.4.high l.i (omega arith) in
-    let k = c.kind_after-kind.ensures ∙ ap (λ (a : ℕ). kind_after l.i l.kind (mark_of a)) a ∙ l.invariant.2.gives in
+    let a = l.invariant.2.high l.i (omega arith) in
+    let k = c.kind_after-kind.ensures ∙ ap (λ (a : ℕ). kind_after l.i l.kind (mark_of a)) a ∙ l.invariant.0.gives in
     let e = unprotected-by _ l.i k c.is_in.ensures in
     elim c.if-is_in.branch [
       | then-is_in w ↦ (
-        omega arith,
-        omega arith,
         onward-next l.i k refl,
-        rw w.chars-is (stored w.clear_cell.ensures.0 l.invariant.3 (omega arith) (omega arith) (sym (simp (e ∙ w.if-is_in.true))) refl),
-        rw w.attrs-is (stored w.clear_cell.ensures.1 l.invariant.4 (omega arith) (omega arith) (ap stripped a ∙ sym (simp (e ∙ w.if-is_in.true))) refl),
+        rw w.chars-is (stored w.clear_cell.ensures.0 l.invariant.1 (omega arith) (omega arith) (sym (simp (e ∙ w.if-is_in.true))) refl),
+        rw w.attrs-is (stored w.clear_cell.ensures.1 l.invariant.2 (omega arith) (omega arith) (ap stripped a ∙ sym (simp (e ∙ w.if-is_in.true))) refl),
       )
       | else-is_in w ↦ (
-        omega arith,
-        omega arith,
         onward-next l.i k refl,
-        rw w.chars-is (skip l.invariant.3 (sym (simp (e ∙ w.if-is_in.false))) refl),
-        rw w.attrs-is (skip l.invariant.4 (sym (simp (e ∙ w.if-is_in.false))) refl),
+        rw w.chars-is (skip l.invariant.1 (sym (simp (e ∙ w.if-is_in.false))) refl),
+        rw w.attrs-is (skip l.invariant.2 (sym (simp (e ∙ w.if-is_in.false))) refl),
       )
     ]
 
 pub returns : goal.returns
-returns c = (done-where _ _ c.loop-i.invariant.3 (omega arith), done-where _ stripped c.loop-i.invariant.4 (omega arith))
+returns c = (done-where _ _ c.loop-i.invariant.1 (omega arith), done-where _ stripped c.loop-i.invariant.2 (omega arith))

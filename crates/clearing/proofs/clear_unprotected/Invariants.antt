@@ -1,8 +1,7 @@
 -- `clearing::clear_unprotected` meets its contract: the cells up to `i` are cleared where unprotected, and `kind` with cell `i`'s mark gives its kind.
 -- Assumes nothing.
-use Prim.Native.Nat.{◌-◌, ◌≤◌}
 use mathlib.Core.Bool.{cond}
-use lib.ListN.{length, get_or}
+use lib.ListN.{get_or}
 use Rattle.cells.proofs.Patch.{Cells}
 use Rattle.fields.specs.Fields.{marks, stripped, unprotected}
 use Rattle.fields.proofs.Scans.{Onward}
@@ -10,9 +9,6 @@ use Rattle.clearing.proofs.clear_unprotected.Given as goal
 
 abbrev pub invariant-loop-i : goal.invariant-loop-i
 invariant-loop-i l =
-    (l.from ≤ l.i) × (l.i ≤ length l.initial.chars) × Onward l.initial.attrs l.i l.kind
+    Onward l.initial.attrs l.i l.kind
     × Cells l.initial.chars l.chars l.from l.i (λ k. cond (unprotected (marks l.initial.attrs) k) 32 (get_or l.initial.chars k 0))
     × Cells l.initial.attrs l.attrs l.from l.i (λ k. cond (unprotected (marks l.initial.attrs) k) (stripped (get_or l.initial.attrs k 0)) (get_or l.initial.attrs k 0))
-
-abbrev pub decreases-loop-i : goal.decreases-loop-i
-decreases-loop-i l = length l.initial.chars - l.i

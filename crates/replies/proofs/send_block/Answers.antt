@@ -5,34 +5,34 @@ use lib.ListN.{length}
 use Rattle.replies.proofs.Blocks.{block-fields, block_row}
 use Rattle.replies.proofs.send_block.Goals as goal
 
-pub send_fields-requires-clause-fact_2 : goal.send_fields-requires-clause-fact_2
-send_fields-requires-clause-fact_2 c =
+pub send_fields-requires-clause-room : goal.send_fields-requires-clause-room
+send_fields-requires-clause-room c =
     let a = c.args in
     let e = ap length (block-fields a.chars.now a.attrs.now a.row c.if-format.true) in
     omega arith
 
-pub returns-then-format-clause-value : goal.returns-then-format-clause-value
-returns-then-format-clause-value c =
+pub returns-then-format-clause-end : goal.returns-then-format-clause-end
+returns-then-format-clause-end c =
     let a = c.args in
-    rw (block-fields a.chars.now a.attrs.now a.row c.if-format.true) c.send_fields.ensures.value
+    rw (block-fields a.chars.now a.attrs.now a.row c.if-format.true) c.send_fields.ensures.end
 
-pub returns-then-format-clause-reply_after : goal.returns-then-format-clause-reply_after
-returns-then-format-clause-reply_after c =
+pub returns-then-format-clause-sent : goal.returns-then-format-clause-sent
+returns-then-format-clause-sent c =
     let a = c.args in
-    rw (block-fields a.chars.now a.attrs.now a.row c.if-format.true) c.send_fields.ensures.reply_after
+    rw (block-fields a.chars.now a.attrs.now a.row c.if-format.true) c.send_fields.ensures.sent
 
-pub send_row-requires-clause-fact_2 : goal.send_row-requires-clause-fact_2
-send_row-requires-clause-fact_2 c =
+pub send_row-requires-clause-room : goal.send_row-requires-clause-room
+send_row-requires-clause-room c =
     let a = c.args in
     let e = ap length (block_row a.chars.now a.attrs.now a.row c.if-format.false) in
     omega arith
 
-pub returns-clause-value : goal.returns-clause-value
-returns-clause-value c =
+pub returns-clause-end : goal.returns-clause-end
+returns-clause-end c =
     let a = c.args in
-    rw (block_row a.chars.now a.attrs.now a.row c.if-format.false) c.send_row.ensures.value
+    rw (block_row a.chars.now a.attrs.now a.row c.if-format.false) c.send_row.ensures.end
 
-pub returns-clause-reply_after : goal.returns-clause-reply_after
-returns-clause-reply_after c =
+pub returns-clause-sent : goal.returns-clause-sent
+returns-clause-sent c =
     let a = c.args in
-    rw (block_row a.chars.now a.attrs.now a.row c.if-format.false) c.send_row.ensures.reply_after
+    rw (block_row a.chars.now a.attrs.now a.row c.if-format.false) c.send_row.ensures.sent

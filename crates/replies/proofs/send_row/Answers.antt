@@ -36,14 +36,14 @@ bounds-reply-end c =
     let w = row-sent a.chars.now a.row (omega arith) (omega arith) c.row_through-to.ensures c.write_at.ensures in
     omega (arith, w.room, w.size)
 
-pub returns-clause-value : goal.returns-clause-value
-returns-clause-value c =
+pub returns-clause-end : goal.returns-clause-end
+returns-clause-end c =
     let a = c.args in
     let w = row-sent a.chars.now a.row (omega arith) (omega arith) c.row_through-to.ensures c.write_at.ensures in
     all-ends (one_more w)
 
-pub returns-clause-reply_after : goal.returns-clause-reply_after
-returns-clause-reply_after c =
+pub returns-clause-sent : goal.returns-clause-sent
+returns-clause-sent c =
     let a = c.args in
     let w = row-sent a.chars.now a.row (omega arith) (omega arith) c.row_through-to.ensures c.write_at.ensures in
     all-written (one_more w)

@@ -23,8 +23,8 @@ write_at-requires-in-3 c =
     let w = world c.args.t c.args.chars.now c.args.attrs.now in
     rw (c.report_status-message.ensures, ← pending-status w c.in-3.is) c.requires.room
 
-pub send_block-requires-clause-fact_2 : goal.send_block-requires-clause-fact_2
-send_block-requires-clause-fact_2 c =
+pub send_block-requires-clause-room : goal.send_block-requires-clause-room
+send_block-requires-clause-room c =
     let w = world c.args.t c.args.chars.now c.args.attrs.now in
     rw (← pending-block w c.in-4.is) c.requires.room
 
@@ -61,12 +61,12 @@ returns-in-3-clause-reply_after c =
 pub returns-in-4-clause-value : goal.returns-in-4-clause-value
 returns-in-4-clause-value c =
     let w = world c.args.t c.args.chars.now c.args.attrs.now in
-    rw (pending-block w c.in-4.is) c.send_block.ensures.value
+    rw (pending-block w c.in-4.is) c.send_block.ensures.end
 
 pub returns-in-4-clause-reply_after : goal.returns-in-4-clause-reply_after
 returns-in-4-clause-reply_after c =
     let w = world c.args.t c.args.chars.now c.args.attrs.now in
-    rw (pending-block w c.in-4.is) c.send_block.ensures.reply_after
+    rw (pending-block w c.in-4.is) c.send_block.ensures.sent
 
 pub returns-in_default-clause-value : goal.returns-in_default-clause-value
 returns-in_default-clause-value c =
