@@ -1,8 +1,6 @@
 // The terminal as a picture in text: the state in words, then the rows with their fields and enhancements, the cursor and the window.
 #![tactic(auto)]
 
-ghost use Rattle.std.specs.Prelude.{◌≤◌};
-
 use cursor::Cursor;
 use printing::Output;
 use std::array;
