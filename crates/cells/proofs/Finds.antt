@@ -4,8 +4,7 @@ use mathlib.Core.Bool.{Bool, true, false}
 use mathlib.Core.Path.{◌≡◌}
 use mathlib.Core.List.{List}
 use lib.ListN.{length, get_or}
-use Rattle.cells.specs.declared.Found.{Found}
-use Rattle.cells.specs.declared.Found.TheVariants.{At, Nothing}
+use Rattle.std.specs.Prelude.{Option, Some, None}
 use Rattle.cells.specs.Search.{count_in, count_of}
 
 module _ {A : Type 0} where
@@ -35,14 +34,14 @@ pub record NthIs {A : Type 0} (p : A → Bool) (d : A) (xs : List A) (n k : ℕ)
 
 -- the answers of the three searches
 module _ {A : Type 0} where
-  abbrev pub FindsFirst : (A → Bool) → A → List A → ℕ → ℕ → Found → Type 0
-  FindsFirst p d xs lo hi (At k) = FirstIs p d xs lo hi k
-  FindsFirst p d xs lo hi Nothing = NoneIn p d xs lo hi
+  abbrev pub FindsFirst : (A → Bool) → A → List A → ℕ → ℕ → Option ℕ → Type 0
+  FindsFirst p d xs lo hi (Some k) = FirstIs p d xs lo hi k
+  FindsFirst p d xs lo hi None = NoneIn p d xs lo hi
 
-  abbrev pub FindsLast : (A → Bool) → A → List A → ℕ → ℕ → Found → Type 0
-  FindsLast p d xs lo hi (At k) = LastIs p d xs lo hi k
-  FindsLast p d xs lo hi Nothing = NoneIn p d xs lo hi
+  abbrev pub FindsLast : (A → Bool) → A → List A → ℕ → ℕ → Option ℕ → Type 0
+  FindsLast p d xs lo hi (Some k) = LastIs p d xs lo hi k
+  FindsLast p d xs lo hi None = NoneIn p d xs lo hi
 
-  abbrev pub FindsNth : (A → Bool) → A → List A → ℕ → Found → Type 0
-  FindsNth p d xs n (At k) = NthIs p d xs n k
-  FindsNth p d xs n Nothing = count_of p xs ≤ n
+  abbrev pub FindsNth : (A → Bool) → A → List A → ℕ → Option ℕ → Type 0
+  FindsNth p d xs n (Some k) = NthIs p d xs n k
+  FindsNth p d xs n None = count_of p xs ≤ n

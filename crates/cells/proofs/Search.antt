@@ -12,28 +12,28 @@ use borrow.Author.Tests.{eq-eqb, ne_eqb, eqb-true, eqb-false}
 use lib.Dec.{eqb}
 use lib.ListN.{length, get_or, take, drop, length-take, drop_of_length-le, take-append-drop}
 use lib.Seq.{slice, slice-cons, length-slice, take-take, drop-append-le, length-take-le, drop-cons, take-length, take_all}
-use Rattle.cells.specs.declared.Found.{Found}
-use Rattle.cells.specs.declared.Found.TheVariants.{At, Nothing}
-use Rattle.cells.specs.Search.{or_else, first_of, last_of, count_of, nth_of, first_in, last_in, count_in}
+use Rattle.std.specs.Option.{option_or}
+use Rattle.std.specs.Prelude.{Option, Some, None}
+use Rattle.cells.specs.Search.{first_of, last_of, count_of, nth_of, first_in, last_in, count_in}
 use Rattle.cells.proofs.Finds.{NoneIn, NthIs, FindsFirst, FindsLast, FindsNth}
 
 pub not-both : {b : Bool} → b ≡ true → b ≡ false → ⊥
 not-both s t = let z : ◌≡◌ {A = ℕ} 0 1 = cc in omega arith
 
--- ---- the second answer where the first is Nothing
-pub else-first : {a : Found} {i : ℕ} (b : Found) → a ≡ At i → At i ≡ or_else a b
-else-first b e = sym (ap (λ (x : Found). or_else x b) e)
+-- ---- the second answer where the first is None
+pub else-first : {a : Option ℕ} {i : ℕ} (b : Option ℕ) → a ≡ Some i → Some i ≡ option_or a b
+else-first b e = sym (ap (λ (x : Option ℕ). option_or x b) e)
 
-pub else-second : {a : Found} (b : Found) → a ≡ Nothing → b ≡ or_else a b
-else-second b e = sym (ap (λ (x : Found). or_else x b) e)
+pub else-second : {a : Option ℕ} (b : Option ℕ) → a ≡ None → b ≡ option_or a b
+else-second b e = sym (ap (λ (x : Option ℕ). option_or x b) e)
 
-pub else-none : (a : Found) → or_else a Nothing ≡ a
-else-none (At i) = refl
-else-none Nothing = refl
+pub else-none : (a : Option ℕ) → option_or a None ≡ a
+else-none (Some i) = refl
+else-none None = refl
 
-else-assoc : (a b c : Found) → or_else (or_else a b) c ≡ or_else a (or_else b c)
-else-assoc (At i) b c = refl
-else-assoc Nothing b c = refl
+else-assoc : (a b c : Option ℕ) → option_or (option_or a b) c ≡ option_or a (option_or b c)
+else-assoc (Some i) b c = refl
+else-assoc None b c = refl
 
 module _ {A : Type 0} where
   -- ---- a range that is empty, of one cell, and of two ranges
@@ -52,23 +52,23 @@ module _ {A : Type 0} where
 
   -- ---- the searches of two lists, one after the other
   module _ (p : A → Bool) where
-    first-append : (xs ys : List A) (i : ℕ) → first_of p i (xs ++ ys) ≡ or_else (first_of p i xs) (first_of p (i + length xs) ys)
+    first-append : (xs ys : List A) (i : ℕ) → first_of p i (xs ++ ys) ≡ option_or (first_of p i xs) (first_of p (i + length xs) ys)
     unfolding first_of
     first-append [] ys i = ap (λ (k : ℕ). first_of p k ys) (omega arith)
     first-append (x ∷ xs) ys i = go (p x) (first-append xs ys (suc i))
       where
-        go : (b : Bool) → first_of p (suc i) (xs ++ ys) ≡ or_else (first_of p (suc i) xs) (first_of p (suc i + length xs) ys)
-            → cond b (At i) (first_of p (suc i) (xs ++ ys)) ≡ or_else (cond b (At i) (first_of p (suc i) xs)) (first_of p (i + suc (length xs)) ys)
+        go : (b : Bool) → first_of p (suc i) (xs ++ ys) ≡ option_or (first_of p (suc i) xs) (first_of p (suc i + length xs) ys)
+            → cond b (Some i) (first_of p (suc i) (xs ++ ys)) ≡ option_or (cond b (Some i) (first_of p (suc i) xs)) (first_of p (i + suc (length xs)) ys)
         go true e = refl
-        go false e = e ∙ ap (λ (k : ℕ). or_else (first_of p (suc i) xs) (first_of p k ys)) (omega arith)
+        go false e = e ∙ ap (λ (k : ℕ). option_or (first_of p (suc i) xs) (first_of p k ys)) (omega arith)
 
-    last-append : (xs ys : List A) (i : ℕ) → last_of p i (xs ++ ys) ≡ or_else (last_of p (i + length xs) ys) (last_of p i xs)
+    last-append : (xs ys : List A) (i : ℕ) → last_of p i (xs ++ ys) ≡ option_or (last_of p (i + length xs) ys) (last_of p i xs)
     unfolding last_of
     last-append [] ys i = ap (λ (k : ℕ). last_of p k ys) (omega arith) ∙ sym (else-none _)
     last-append (x ∷ xs) ys i =
-        ap (λ (f : Found). or_else f (cond (p x) (At i) Nothing)) (last-append xs ys (suc i))
-        ∙ else-assoc (last_of p (suc i + length xs) ys) (last_of p (suc i) xs) (cond (p x) (At i) Nothing)
-        ∙ ap (λ (k : ℕ). or_else (last_of p k ys) (or_else (last_of p (suc i) xs) (cond (p x) (At i) Nothing))) (omega arith)
+        ap (λ (f : Option ℕ). option_or f (cond (p x) (Some i) None)) (last-append xs ys (suc i))
+        ∙ else-assoc (last_of p (suc i + length xs) ys) (last_of p (suc i) xs) (cond (p x) (Some i) None)
+        ∙ ap (λ (k : ℕ). option_or (last_of p k ys) (option_or (last_of p (suc i) xs) (cond (p x) (Some i) None))) (omega arith)
 
     count-append : (xs ys : List A) → count_of p (xs ++ ys) ≡ count_of p xs + count_of p ys
     unfolding count_of
@@ -88,7 +88,7 @@ module _ {A : Type 0} where
       where
         go : (b : Bool) → ((m : ℕ) → count_of p xs ≤ m → nth_of p m (suc i) (xs ++ ys) ≡ nth_of p (m - count_of p xs) (suc i + length xs) ys)
             → cond b (suc (count_of p xs)) (count_of p xs) ≤ n
-            → cond b (cond (eqb n 0) (At i) (nth_of p (n - 1) (suc i) (xs ++ ys))) (nth_of p n (suc i) (xs ++ ys)) ≡ nth_of p (n - cond b (suc (count_of p xs)) (count_of p xs)) (i + suc (length xs)) ys
+            → cond b (cond (eqb n 0) (Some i) (nth_of p (n - 1) (suc i) (xs ++ ys))) (nth_of p n (suc i) (xs ++ ys)) ≡ nth_of p (n - cond b (suc (count_of p xs)) (count_of p xs)) (i + suc (length xs)) ys
         go true ih l = rw (ne_eqb n 0 (λ e. omega arith)) (ih (n - 1) (omega arith) ∙ ap₂ (λ (m k : ℕ). nth_of p m k ys) (omega arith) (omega arith))
         go false ih l = ih n l ∙ ap (λ (k : ℕ). nth_of p (n - count_of p xs) k ys) (omega arith)
 
@@ -97,36 +97,36 @@ module _ {A : Type 0} where
       middle : lo + length (slice lo mid xs) ≡ mid
       middle = omega (arith, length-slice lo mid xs (omega arith))
 
-      pub first-join : first_in p xs lo hi ≡ or_else (first_in p xs lo mid) (first_in p xs mid hi)
+      pub first-join : first_in p xs lo hi ≡ option_or (first_in p xs lo mid) (first_in p xs mid hi)
       unfolding first_in
       first-join =
           ap (first_of p lo) (slice-join lo mid hi xs a b c)
           ∙ first-append (slice lo mid xs) (slice mid hi xs) lo
-          ∙ ap (λ (k : ℕ). or_else (first_of p lo (slice lo mid xs)) (first_of p k (slice mid hi xs))) middle
+          ∙ ap (λ (k : ℕ). option_or (first_of p lo (slice lo mid xs)) (first_of p k (slice mid hi xs))) middle
 
-      pub last-join : last_in p xs lo hi ≡ or_else (last_in p xs mid hi) (last_in p xs lo mid)
+      pub last-join : last_in p xs lo hi ≡ option_or (last_in p xs mid hi) (last_in p xs lo mid)
       unfolding last_in
       last-join =
           ap (last_of p lo) (slice-join lo mid hi xs a b c)
           ∙ last-append (slice lo mid xs) (slice mid hi xs) lo
-          ∙ ap (λ (k : ℕ). or_else (last_of p k (slice mid hi xs)) (last_of p lo (slice lo mid xs))) middle
+          ∙ ap (λ (k : ℕ). option_or (last_of p k (slice mid hi xs)) (last_of p lo (slice lo mid xs))) middle
 
       pub count-join : count_in p xs lo hi ≡ count_in p xs lo mid + count_in p xs mid hi
       unfolding count_in
       count-join = ap (count_of p) (slice-join lo mid hi xs a b c) ∙ count-append (slice lo mid xs) (slice mid hi xs)
 
       -- where one part has none, the search of the other is the search of all
-      pub first_past : first_in p xs lo mid ≡ Nothing → first_in p xs lo hi ≡ first_in p xs mid hi
+      pub first_past : first_in p xs lo mid ≡ None → first_in p xs lo hi ≡ first_in p xs mid hi
       first_past e = first-join ∙ sym (else-second (first_in p xs mid hi) e)
 
-      pub first_short : first_in p xs mid hi ≡ Nothing → first_in p xs lo hi ≡ first_in p xs lo mid
-      first_short e = first-join ∙ ap (or_else (first_in p xs lo mid)) e ∙ else-none (first_in p xs lo mid)
+      pub first_short : first_in p xs mid hi ≡ None → first_in p xs lo hi ≡ first_in p xs lo mid
+      first_short e = first-join ∙ ap (option_or (first_in p xs lo mid)) e ∙ else-none (first_in p xs lo mid)
 
-      pub last-past : last_in p xs mid hi ≡ Nothing → last_in p xs lo hi ≡ last_in p xs lo mid
+      pub last-past : last_in p xs mid hi ≡ None → last_in p xs lo hi ≡ last_in p xs lo mid
       last-past e = last-join ∙ sym (else-second (last_in p xs lo mid) e)
 
-      pub last-short : last_in p xs lo mid ≡ Nothing → last_in p xs lo hi ≡ last_in p xs mid hi
-      last-short e = last-join ∙ ap (or_else (last_in p xs mid hi)) e ∙ else-none (last_in p xs mid hi)
+      pub last-short : last_in p xs lo mid ≡ None → last_in p xs lo hi ≡ last_in p xs mid hi
+      last-short e = last-join ∙ ap (option_or (last_in p xs mid hi)) e ∙ else-none (last_in p xs mid hi)
 
     -- ---- past the memory's end there is nothing to find
     module _ (xs : List A) (lo hi : ℕ) (h : length xs ≤ hi) where
@@ -144,11 +144,11 @@ module _ {A : Type 0} where
 
     -- ---- an empty range
     module _ (xs : List A) (lo hi : ℕ) (h : hi ≤ lo) where
-      pub first_done : first_in p xs lo hi ≡ Nothing
+      pub first_done : first_in p xs lo hi ≡ None
       unfolding first_in first_of
       first_done = ap (first_of p lo) (slice-none lo hi xs h)
 
-      pub last_done : last_in p xs lo hi ≡ Nothing
+      pub last_done : last_in p xs lo hi ≡ None
       unfolding last_in last_of
       last_done = ap (last_of p lo) (slice-none lo hi xs h)
 
@@ -158,11 +158,11 @@ module _ {A : Type 0} where
 
     module _ (d : A) (xs : List A) where
       -- ---- a range of one cell
-      first-one-cell : (i : ℕ) → i < length xs → first_in p xs i (i + 1) ≡ cond (p (get_or xs i d)) (At i) Nothing
+      first-one-cell : (i : ℕ) → i < length xs → first_in p xs i (i + 1) ≡ cond (p (get_or xs i d)) (Some i) None
       unfolding first_in first_of
       first-one-cell i h = ap (first_of p i) (slice-one d i xs h)
 
-      last-one-cell : (i : ℕ) → i < length xs → last_in p xs i (i + 1) ≡ cond (p (get_or xs i d)) (At i) Nothing
+      last-one-cell : (i : ℕ) → i < length xs → last_in p xs i (i + 1) ≡ cond (p (get_or xs i d)) (Some i) None
       unfolding last_in last_of
       last-one-cell i h = ap (last_of p i) (slice-one d i xs h)
 
@@ -171,26 +171,26 @@ module _ {A : Type 0} where
       count-one-cell i h = ap (count_of p) (slice-one d i xs h)
 
       -- ---- one step of the search for the first, at the lower end
-      pub first-hit : (lo hi : ℕ) → lo < hi → hi ≤ length xs → p (get_or xs lo d) ≡ true → first_in p xs lo hi ≡ At lo
+      pub first-hit : (lo hi : ℕ) → lo < hi → hi ≤ length xs → p (get_or xs lo d) ≡ true → first_in p xs lo hi ≡ Some lo
       first-hit lo hi h l t =
           first-join xs lo (lo + 1) hi (omega arith) (omega arith) l
-          ∙ ap (λ (f : Found). or_else f (first_in p xs (lo + 1) hi)) (first-one-cell lo (omega arith) ∙ ap (λ (b : Bool). cond b (At lo) Nothing) t)
+          ∙ ap (λ (f : Option ℕ). option_or f (first_in p xs (lo + 1) hi)) (first-one-cell lo (omega arith) ∙ ap (λ (b : Bool). cond b (Some lo) None) t)
 
       pub first-miss : (lo hi : ℕ) → lo < hi → hi ≤ length xs → p (get_or xs lo d) ≡ false → first_in p xs lo hi ≡ first_in p xs (lo + 1) hi
       first-miss lo hi h l t =
           first_past xs lo (lo + 1) hi (omega arith) (omega arith) l
-          (first-one-cell lo (omega arith) ∙ ap (λ (b : Bool). cond b (At lo) Nothing) t)
+          (first-one-cell lo (omega arith) ∙ ap (λ (b : Bool). cond b (Some lo) None) t)
 
       -- ---- one step of the search for the last, and of the count, at the upper end
-      pub last-hit : (lo i : ℕ) → lo ≤ i → i < length xs → p (get_or xs i d) ≡ true → last_in p xs lo (i + 1) ≡ At i
+      pub last-hit : (lo i : ℕ) → lo ≤ i → i < length xs → p (get_or xs i d) ≡ true → last_in p xs lo (i + 1) ≡ Some i
       last-hit lo i h l t =
           last-join xs lo i (i + 1) h (omega arith) (omega arith)
-          ∙ ap (λ (f : Found). or_else f (last_in p xs lo i)) (last-one-cell i l ∙ ap (λ (b : Bool). cond b (At i) Nothing) t)
+          ∙ ap (λ (f : Option ℕ). option_or f (last_in p xs lo i)) (last-one-cell i l ∙ ap (λ (b : Bool). cond b (Some i) None) t)
 
       pub last-miss : (lo i : ℕ) → lo ≤ i → i < length xs → p (get_or xs i d) ≡ false → last_in p xs lo (i + 1) ≡ last_in p xs lo i
       last-miss lo i h l t =
           last-past xs lo i (i + 1) h (omega arith) (omega arith)
-          (last-one-cell i l ∙ ap (λ (b : Bool). cond b (At i) Nothing) t)
+          (last-one-cell i l ∙ ap (λ (b : Bool). cond b (Some i) None) t)
 
       pub count-hit : (lo i : ℕ) → lo ≤ i → i < length xs → p (get_or xs i d) ≡ true → count_in p xs lo (i + 1) ≡ count_in p xs lo i + 1
       count-hit lo i h l t =
@@ -204,16 +204,16 @@ module _ {A : Type 0} where
           ∙ (omega arith)
 
       -- ---- one step of the search for the n-th, along what is left
-      pub nth-done : (n i : ℕ) → length xs ≤ i → nth_of p n i (drop i xs) ≡ Nothing
+      pub nth-done : (n i : ℕ) → length xs ≤ i → nth_of p n i (drop i xs) ≡ None
       unfolding nth_of
       nth-done n i h = ap (nth_of p n i) (drop_of_length-le xs h)
 
       nth-step : (n i : ℕ) → i < length xs
-          → nth_of p n i (drop i xs) ≡ cond (p (get_or xs i d)) (cond (eqb n 0) (At i) (nth_of p (n - 1) (i + 1) (drop (i + 1) xs))) (nth_of p n (i + 1) (drop (i + 1) xs))
+          → nth_of p n i (drop i xs) ≡ cond (p (get_or xs i d)) (cond (eqb n 0) (Some i) (nth_of p (n - 1) (i + 1) (drop (i + 1) xs))) (nth_of p n (i + 1) (drop (i + 1) xs))
       unfolding nth_of
       nth-step n i h = ap (nth_of p n i) (drop-cons xs i d h) ∙ rw (add-one i)
 
-      pub nth-hit : (n i : ℕ) → i < length xs → p (get_or xs i d) ≡ true → n ≡ 0 → nth_of p n i (drop i xs) ≡ At i
+      pub nth-hit : (n i : ℕ) → i < length xs → p (get_or xs i d) ≡ true → n ≡ 0 → nth_of p n i (drop i xs) ≡ Some i
       nth-hit n i h t e = nth-step n i h ∙ rw (t, eq-eqb n 0 e)
 
       pub nth-pass : (n i : ℕ) → i < length xs → p (get_or xs i d) ≡ true → (n ≡ 0 → ⊥) → nth_of p n i (drop i xs) ≡ nth_of p (n - 1) (i + 1) (drop (i + 1) xs)
@@ -245,10 +245,10 @@ module _ {A : Type 0} {p : A → Bool} {d : A} {xs : List A} {lo hi : ℕ} where
   pub upto_next : {i j : ℕ} → Upto p d xs lo hi i → i < hi → p (get_or xs i d) ≡ false → i + 1 ≡ j → Upto p d xs lo hi j
   upto_next {i} u h t e = upto-move (record { fits = u.fits; same = u.same ∙ first-miss p d xs i hi h u.fits t }) e
 
-  pub upto-hit : {i : ℕ} → Upto p d xs lo hi i → i < hi → p (get_or xs i d) ≡ true → At i ≡ first_in p xs lo hi
+  pub upto-hit : {i : ℕ} → Upto p d xs lo hi i → i < hi → p (get_or xs i d) ≡ true → Some i ≡ first_in p xs lo hi
   upto-hit {i} u h t = sym (u.same ∙ first-hit p d xs i hi h u.fits t)
 
-  pub upto-end : {i : ℕ} → Upto p d xs lo hi i → hi ≤ i → Nothing ≡ first_in p xs lo hi
+  pub upto-end : {i : ℕ} → Upto p d xs lo hi i → hi ≤ i → None ≡ first_in p xs lo hi
   upto-end {i} u h = sym (u.same ∙ first_done p xs i hi h)
 
 -- ---- the same downwards: from i up to hi nothing passes
@@ -267,10 +267,10 @@ module _ {A : Type 0} {p : A → Bool} {d : A} {xs : List A} {lo hi : ℕ} where
   down-next {i} {j} u h t e =
       record { fits = omega arith; same = u.same ∙ ap (λ (k : ℕ). last_in p xs lo k) e ∙ last-miss p d xs lo j h (omega arith) t }
 
-  pub down-hit : {i j : ℕ} → Downto p d xs lo hi i → lo ≤ j → p (get_or xs j d) ≡ true → i ≡ j + 1 → At j ≡ last_in p xs lo hi
+  pub down-hit : {i j : ℕ} → Downto p d xs lo hi i → lo ≤ j → p (get_or xs j d) ≡ true → i ≡ j + 1 → Some j ≡ last_in p xs lo hi
   down-hit {i} {j} u h t e = sym (u.same ∙ ap (λ (k : ℕ). last_in p xs lo k) e ∙ last-hit p d xs lo j h (omega arith) t)
 
-  pub down-end : {i : ℕ} → Downto p d xs lo hi i → i ≤ lo → Nothing ≡ last_in p xs lo hi
+  pub down-end : {i : ℕ} → Downto p d xs lo hi i → i ≤ lo → None ≡ last_in p xs lo hi
   down-end {i} u h = sym (u.same ∙ last_done p xs lo i h)
 
 -- ---- the same for the n-th: what is left to pass from cell i on
@@ -294,10 +294,10 @@ module _ {A : Type 0} {p : A → Bool} {d : A} {xs : List A} {n : ℕ} where
   pub passed-count : {i j m l : ℕ} → Passed p d xs n i m → i ≤ j → j ≤ length xs → count_in p xs i j ≤ m → l ≡ m - count_in p xs i j → Passed p d xs n j l
   passed-count {i} {j} {m} {l} u a b h f = passed-move (record { same = u.same ∙ nth_past p d xs m i j a b h }) refl f
 
-  pub passed-hit : {i m : ℕ} → Passed p d xs n i m → i < length xs → p (get_or xs i d) ≡ true → m ≡ 0 → At i ≡ nth_of p n 0 xs
+  pub passed-hit : {i m : ℕ} → Passed p d xs n i m → i < length xs → p (get_or xs i d) ≡ true → m ≡ 0 → Some i ≡ nth_of p n 0 xs
   passed-hit {i} {m} u h t z = sym (u.same ∙ nth-hit p d xs m i h t z)
 
-  pub passed-end : {i m : ℕ} → Passed p d xs n i m → length xs ≤ i → Nothing ≡ nth_of p n 0 xs
+  pub passed-end : {i m : ℕ} → Passed p d xs n i m → length xs ≤ i → None ≡ nth_of p n 0 xs
   passed-end {i} {m} u h = sym (u.same ∙ nth-done p d xs m i h)
 
 -- ---- the same for a count: n of the cells from lo up to i pass
@@ -323,9 +323,9 @@ module _ {A : Type 0} (p : A → Bool) (d : A) (xs : List A) where
   none_above : (lo hi : ℕ) → p (get_or xs hi d) ≡ false → NoneIn p d xs lo hi → NoneIn p d xs lo (hi + 1)
   none_above lo hi t n j a b = ⊎_elim (λ e. rw e t) (λ s. n j a s) (eq-or-lt_of_le {n = j} {m = hi} (omega arith))
 
-  first_more : (lo hi : ℕ) (f : Found) → lo < hi → p (get_or xs lo d) ≡ false → FindsFirst p d xs (lo + 1) hi f → FindsFirst p d xs lo hi f
-  first_more lo hi (At k) h t r = record { low = omega (arith, r.low); high = r.high; hit = r.hit; none = none_below lo k t r.none }
-  first_more lo hi Nothing h t r = none_below lo hi t r
+  first_more : (lo hi : ℕ) (f : Option ℕ) → lo < hi → p (get_or xs lo d) ≡ false → FindsFirst p d xs (lo + 1) hi f → FindsFirst p d xs lo hi f
+  first_more lo hi (Some k) h t r = record { low = omega (arith, r.low); high = r.high; hit = r.hit; none = none_below lo k t r.none }
+  first_more lo hi None h t r = none_below lo hi t r
 
   first-steps : (n lo hi : ℕ) → lo + n ≡ hi → hi ≤ length xs → FindsFirst p d xs lo hi (first_in p xs lo hi)
   first-steps zero lo hi e l = rw (first_done p xs lo hi (omega arith)) (λ j a b. absurd (omega arith))
@@ -337,9 +337,9 @@ module _ {A : Type 0} (p : A → Bool) (d : A) (xs : List A) where
           (record { low = omega arith; high = omega arith; hit = t; none = λ j a b. absurd (omega arith) })
       go false t r = rw (first-miss p d xs lo hi (omega arith) l t) (first_more lo hi (first_in p xs (lo + 1) hi) (omega arith) t r)
 
-  last_more : (lo hi : ℕ) (f : Found) → p (get_or xs hi d) ≡ false → FindsLast p d xs lo hi f → FindsLast p d xs lo (hi + 1) f
-  last_more lo hi (At k) t r = record { low = r.low; high = omega (arith, r.high); hit = r.hit; none = none_above (suc k) hi t r.none }
-  last_more lo hi Nothing t r = none_above lo hi t r
+  last_more : (lo hi : ℕ) (f : Option ℕ) → p (get_or xs hi d) ≡ false → FindsLast p d xs lo hi f → FindsLast p d xs lo (hi + 1) f
+  last_more lo hi (Some k) t r = record { low = r.low; high = omega (arith, r.high); hit = r.hit; none = none_above (suc k) hi t r.none }
+  last_more lo hi None t r = none_above lo hi t r
 
   last-steps : (n lo hi : ℕ) → lo + n ≡ hi → hi ≤ length xs → FindsLast p d xs lo hi (last_in p xs lo hi)
   last-steps zero lo hi e l = rw (last_done p xs lo hi (omega arith)) (λ j a b. absurd (omega arith))
@@ -369,39 +369,39 @@ module _ {A : Type 0} (p : A → Bool) (d : A) (xs : List A) where
         go (no h) = rw (last_done p xs lo hi (omega arith)) (λ j a b. absurd (omega arith))
 
     -- ---- and no others are
-    first_one : (f g : Found) → FindsFirst p d xs lo hi f → FindsFirst p d xs lo hi g → f ≡ g
-    first_one (At i) (At k) r s =
+    first_one : (f g : Option ℕ) → FindsFirst p d xs lo hi f → FindsFirst p d xs lo hi g → f ≡ g
+    first_one (Some i) (Some k) r s =
         let a : i < k → ⊥ = λ l. not-both r.hit (s.none i r.low l) in
         let b : k < i → ⊥ = λ l. not-both s.hit (r.none k s.low l) in
-        ap At (omega arith)
-    first_one (At i) Nothing r s = absurd (not-both r.hit (s i r.low r.high))
-    first_one Nothing (At k) r s = absurd (not-both s.hit (r k s.low s.high))
-    first_one Nothing Nothing r s = refl
+        ap Some (omega arith)
+    first_one (Some i) None r s = absurd (not-both r.hit (s i r.low r.high))
+    first_one None (Some k) r s = absurd (not-both s.hit (r k s.low s.high))
+    first_one None None r s = refl
 
-    last_one : (f g : Found) → FindsLast p d xs lo hi f → FindsLast p d xs lo hi g → f ≡ g
-    last_one (At i) (At k) r s =
+    last_one : (f g : Option ℕ) → FindsLast p d xs lo hi f → FindsLast p d xs lo hi g → f ≡ g
+    last_one (Some i) (Some k) r s =
         let a : k < i → ⊥ = λ l. not-both r.hit (s.none i l r.high) in
         let b : i < k → ⊥ = λ l. not-both s.hit (r.none k l s.high) in
-        ap At (omega arith)
-    last_one (At i) Nothing r s = absurd (not-both r.hit (s i r.low r.high))
-    last_one Nothing (At k) r s = absurd (not-both s.hit (r k s.low s.high))
-    last_one Nothing Nothing r s = refl
+        ap Some (omega arith)
+    last_one (Some i) None r s = absurd (not-both r.hit (s i r.low r.high))
+    last_one None (Some k) r s = absurd (not-both s.hit (r k s.low s.high))
+    last_one None None r s = refl
 
     -- ---- so an answer that is right is the search's, and what the search gives is right
-    pub first-is : hi ≤ length xs → (f : Found) → FindsFirst p d xs lo hi f → first_in p xs lo hi ≡ f
+    pub first-is : hi ≤ length xs → (f : Option ℕ) → FindsFirst p d xs lo hi f → first_in p xs lo hi ≡ f
     first-is l f r = first_one (first_in p xs lo hi) f (first_finds l) r
 
-    pub last-is : hi ≤ length xs → (f : Found) → FindsLast p d xs lo hi f → last_in p xs lo hi ≡ f
+    pub last-is : hi ≤ length xs → (f : Option ℕ) → FindsLast p d xs lo hi f → last_in p xs lo hi ≡ f
     last-is l f r = last_one (last_in p xs lo hi) f (last-finds l) r
 
-    pub first_found : hi ≤ length xs → {f : Found} → first_in p xs lo hi ≡ f → FindsFirst p d xs lo hi f
+    pub first_found : hi ≤ length xs → {f : Option ℕ} → first_in p xs lo hi ≡ f → FindsFirst p d xs lo hi f
     first_found l e = subst (FindsFirst p d xs lo hi) e (first_finds l)
 
-    pub last_found : hi ≤ length xs → {f : Found} → last_in p xs lo hi ≡ f → FindsLast p d xs lo hi f
+    pub last_found : hi ≤ length xs → {f : Option ℕ} → last_in p xs lo hi ≡ f → FindsLast p d xs lo hi f
     last_found l e = subst (FindsLast p d xs lo hi) e (last-finds l)
 
   -- ---- what is found lies in the range, wherever the memory ends
-  pub first_range : (lo hi k : ℕ) → first_in p xs lo hi ≡ At k → (lo ≤ k) × (k < hi)
+  pub first_range : (lo hi k : ℕ) → first_in p xs lo hi ≡ Some k → (lo ≤ k) × (k < hi)
   first_range lo hi k e = go (dec_le hi (length xs))
     where
       go : Dec (hi ≤ length xs) → (lo ≤ k) × (k < hi)
@@ -410,7 +410,7 @@ module _ {A : Type 0} (p : A → Bool) (d : A) (xs : List A) where
           let r = first_found lo (length xs) (omega arith) (sym (first-cut p xs lo hi (omega arith)) ∙ e) in
           (r.low, omega (arith, r.high))
 
-  pub last-range : (lo hi k : ℕ) → last_in p xs lo hi ≡ At k → (lo ≤ k) × (k < hi)
+  pub last-range : (lo hi k : ℕ) → last_in p xs lo hi ≡ Some k → (lo ≤ k) × (k < hi)
   last-range lo hi k e = go (dec_le hi (length xs))
     where
       go : Dec (hi ≤ length xs) → (lo ≤ k) × (k < hi)
@@ -426,15 +426,15 @@ module _ {A B : Type 0} (p : A → Bool) (d : A) (xs : List A) (q : B → Bool) 
   Alike lo hi = (k : ℕ) → lo ≤ k → k < hi → p (get_or xs k d) ≡ q (get_or ys k e)
 
   module _ (lo hi : ℕ) (h : Alike lo hi) where
-    first_to : (f : Found) → FindsFirst p d xs lo hi f → FindsFirst q e ys lo hi f
-    first_to (At k) r =
+    first_to : (f : Option ℕ) → FindsFirst p d xs lo hi f → FindsFirst q e ys lo hi f
+    first_to (Some k) r =
         record { low = r.low; high = r.high; hit = sym (h k r.low r.high) ∙ r.hit; none = λ j a b. sym (h j a (omega (arith, r.high))) ∙ r.none j a b }
-    first_to Nothing r = λ j a b. sym (h j a b) ∙ r j a b
+    first_to None r = λ j a b. sym (h j a b) ∙ r j a b
 
-    last-to : (f : Found) → FindsLast p d xs lo hi f → FindsLast q e ys lo hi f
-    last-to (At k) r =
+    last-to : (f : Option ℕ) → FindsLast p d xs lo hi f → FindsLast q e ys lo hi f
+    last-to (Some k) r =
         record { low = r.low; high = r.high; hit = sym (h k r.low r.high) ∙ r.hit; none = λ j a b. sym (h j (omega (arith, r.low)) b) ∙ r.none j a b }
-    last-to Nothing r = λ j a b. sym (h j a b) ∙ r j a b
+    last-to None r = λ j a b. sym (h j a b) ∙ r j a b
 
     pub first_alike : hi ≤ length xs → hi ≤ length ys → first_in p xs lo hi ≡ first_in q ys lo hi
     first_alike l m = sym (first-is q e ys lo hi m (first_in p xs lo hi) (first_to (first_in p xs lo hi) (first_finds p d xs lo hi l)))
@@ -479,19 +479,19 @@ module _ {A B : Type 0} (p : B → Bool) (f : A → B) where
   first_walk : (i : ℕ) (xs : List A) → first_of p i (map f xs) ≡ first_of (λ a. p (f a)) i xs
   unfolding first_of
   first_walk i [] = refl
-  first_walk i (x ∷ xs) = ap (cond (p (f x)) (At i)) (first_walk (suc i) xs)
+  first_walk i (x ∷ xs) = ap (cond (p (f x)) (Some i)) (first_walk (suc i) xs)
 
   last-walk : (i : ℕ) (xs : List A) → last_of p i (map f xs) ≡ last_of (λ a. p (f a)) i xs
   unfolding last_of
   last-walk i [] = refl
-  last-walk i (x ∷ xs) = ap (λ (r : Found). or_else r (cond (p (f x)) (At i) Nothing)) (last-walk (suc i) xs)
+  last-walk i (x ∷ xs) = ap (λ (r : Option ℕ). option_or r (cond (p (f x)) (Some i) None)) (last-walk (suc i) xs)
 
   pub nth-map : (n i : ℕ) (xs : List A) → nth_of p n i (map f xs) ≡ nth_of (λ a. p (f a)) n i xs
   unfolding nth_of
   nth-map n i [] = refl
   nth-map n i (x ∷ xs) =
-      ap (λ (r : Found). cond (p (f x)) (cond (eqb n 0) (At i) r) (nth_of p n (suc i) (map f xs))) (nth-map (n - 1) (suc i) xs)
-      ∙ ap (cond (p (f x)) (cond (eqb n 0) (At i) (nth_of (λ a. p (f a)) (n - 1) (suc i) xs))) (nth-map n (suc i) xs)
+      ap (λ (r : Option ℕ). cond (p (f x)) (cond (eqb n 0) (Some i) r) (nth_of p n (suc i) (map f xs))) (nth-map (n - 1) (suc i) xs)
+      ∙ ap (cond (p (f x)) (cond (eqb n 0) (Some i) (nth_of (λ a. p (f a)) (n - 1) (suc i) xs))) (nth-map n (suc i) xs)
 
   count-walk : (xs : List A) → count_of p (map f xs) ≡ count_of (λ a. p (f a)) xs
   unfolding count_of
@@ -517,16 +517,16 @@ module _ {A B : Type 0} (p : B → Bool) (f : A → B) where
 -- ---- the n-th and the count are inverse
 module _ {A : Type 0} (p : A → Bool) (d : A) where
   -- what the search for the n-th gives, from cell i on
-  abbrev From : ℕ → ℕ → List A → Found → Type 0
-  From n i xs (At k) = (j : ℕ) × (k ≡ i + j) × NthIs p d xs n j
-  From n i xs Nothing = count_of p xs ≤ n
+  abbrev From : ℕ → ℕ → List A → Option ℕ → Type 0
+  From n i xs (Some k) = (j : ℕ) × (k ≡ i + j) × NthIs p d xs n j
+  From n i xs None = count_of p xs ≤ n
 
-  from_cons : (n m i : ℕ) (x : A) (xs : List A) (f : Found) → ((j : ℕ) → count_of p (take j xs) ≡ m → count_of p (x ∷ take j xs) ≡ n) → (count_of p xs ≤ m → count_of p (x ∷ xs) ≤ n)
+  from_cons : (n m i : ℕ) (x : A) (xs : List A) (f : Option ℕ) → ((j : ℕ) → count_of p (take j xs) ≡ m → count_of p (x ∷ take j xs) ≡ n) → (count_of p xs ≤ m → count_of p (x ∷ xs) ≤ n)
       → From m (suc i) xs f → From n i (x ∷ xs) f
   unfolding count_in
-  from_cons n m i x xs (At k) g h r =
+  from_cons n m i x xs (Some k) g h r =
       (suc r.0, omega (arith, r.1), record { high = suc-le-suc r.2.high; hit = r.2.hit; before = g r.0 r.2.before })
-  from_cons n m i x xs Nothing g h r = h r
+  from_cons n m i x xs None g h r = h r
 
   from-finds : (xs : List A) (n i : ℕ) → From n i xs (nth_of p n i xs)
   unfolding nth_of count_of count_in
@@ -538,7 +538,7 @@ module _ {A : Type 0} (p : A → Bool) (d : A) where
 
       go : (b : Bool) → p x ≡ b → (z : Bool) → eqb n 0 ≡ z
           → From (n - 1) (suc i) xs (nth_of p (n - 1) (suc i) xs) → From n (suc i) xs (nth_of p n (suc i) xs)
-          → From n i (x ∷ xs) (cond b (cond z (At i) (nth_of p (n - 1) (suc i) xs)) (nth_of p n (suc i) xs))
+          → From n i (x ∷ xs) (cond b (cond z (Some i) (nth_of p (n - 1) (suc i) xs)) (nth_of p n (suc i) xs))
       go true t true z r s = (0, omega arith, record { high = omega arith; hit = t; before = sym (eqb-true n 0 z) })
       go true t false z r s =
           let ne : n ≡ 0 → ⊥ = eqb-false n 0 z in
@@ -551,9 +551,9 @@ module _ {A : Type 0} (p : A → Bool) (d : A) where
     pub nth-finds : (n : ℕ) → FindsNth p d xs n (nth_of p n 0 xs)
     nth-finds n = go (nth_of p n 0 xs) (from-finds xs n 0)
       where
-        go : (f : Found) → From n 0 xs f → FindsNth p d xs n f
-        go (At k) r = let e : r.0 ≡ k = omega (arith, r.1) in subst (NthIs p d xs n) e r.2
-        go Nothing r = r
+        go : (f : Option ℕ) → From n 0 xs f → FindsNth p d xs n f
+        go (Some k) r = let e : r.0 ≡ k = omega (arith, r.1) in subst (NthIs p d xs n) e r.2
+        go None r = r
 
     -- the count of all, and its growth
     pub count-all : count_in p xs 0 (length xs) ≡ count_of p xs
@@ -566,17 +566,17 @@ module _ {A : Type 0} (p : A → Bool) (d : A) where
     pub count-lt : (i k : ℕ) → i < k → k ≤ length xs → p (get_or xs i d) ≡ true → count_in p xs 0 i < count_in p xs 0 k
     count-lt i k h l t = omega (arith, count-hit p d xs 0 i (omega arith) (omega arith) t, count-le (i + 1) k (omega arith) l)
 
-    nth-one : (n : ℕ) (f g : Found) → FindsNth p d xs n f → FindsNth p d xs n g → f ≡ g
-    nth-one n (At i) (At k) r s =
+    nth-one : (n : ℕ) (f g : Option ℕ) → FindsNth p d xs n f → FindsNth p d xs n g → f ≡ g
+    nth-one n (Some i) (Some k) r s =
         let a : i < k → ⊥ = λ l. omega (arith, count-lt i k l (omega (arith, s.high)) r.hit, r.before, s.before) in
         let b : k < i → ⊥ = λ l. omega (arith, count-lt k i l (omega (arith, r.high)) s.hit, r.before, s.before) in
-        ap At (omega arith)
-    nth-one n (At i) Nothing r s = absurd (omega (arith, count-lt i (length xs) r.high (omega arith) r.hit, count-all, r.before, s))
-    nth-one n Nothing (At k) r s = absurd (omega (arith, count-lt k (length xs) s.high (omega arith) s.hit, count-all, s.before, r))
-    nth-one n Nothing Nothing r s = refl
+        ap Some (omega arith)
+    nth-one n (Some i) None r s = absurd (omega (arith, count-lt i (length xs) r.high (omega arith) r.hit, count-all, r.before, s))
+    nth-one n None (Some k) r s = absurd (omega (arith, count-lt k (length xs) s.high (omega arith) s.hit, count-all, s.before, r))
+    nth-one n None None r s = refl
 
-    pub nth-is : (n : ℕ) (f : Found) → FindsNth p d xs n f → nth_of p n 0 xs ≡ f
+    pub nth-is : (n : ℕ) (f : Option ℕ) → FindsNth p d xs n f → nth_of p n 0 xs ≡ f
     nth-is n f r = nth-one n (nth_of p n 0 xs) f (nth-finds n) r
 
-    pub nth-found : (n : ℕ) {f : Found} → nth_of p n 0 xs ≡ f → FindsNth p d xs n f
+    pub nth-found : (n : ℕ) {f : Option ℕ} → nth_of p n 0 xs ≡ f → FindsNth p d xs n f
     nth-found n e = subst (FindsNth p d xs n) e (nth-finds n)

@@ -1,4 +1,4 @@
-// Byte memories: ranges, the answer of a search, and the loops that write. Each cell is written at most once in one operation.
+// Byte memories: ranges, and the loops that write. Each cell is written at most once in one operation.
 #![tactic(auto)]
 
 ghost use Rattle.std.specs.Prelude.{◌≡◌, ◌+◌, ◌-◌, ◌≤◌, ◌<◌, min, ◌++◌, length, replicate};
@@ -17,13 +17,6 @@ pub fn least(a: usize, b: usize) -> usize
     ensures { result ≡ min a b }
 {
     if a < b { a } else { b }
-}
-
-// What a search finds: a cell's number, or nothing.
-#[derive(Clone, Copy)]
-pub enum Found {
-    At(usize),
-    Nothing,
 }
 
 // Cells `from` to `to - 1` become `v`.

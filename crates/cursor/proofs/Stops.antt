@@ -6,9 +6,8 @@ use mathlib.Core.List.{List}
 use native.Mathlib.Omega.{arith}
 use lib.Dec.{ltb}
 use borrow.Author.Tests.{ltb-true}
-use Rattle.cells.specs.declared.Found.{Found}
-use Rattle.cells.specs.declared.Found.TheVariants.{At, Nothing}
-use Rattle.cells.specs.Search.{at_or, first_in, last_in}
+use Rattle.std.specs.Prelude.{Option, Some, None, unwrap_or}
+use Rattle.cells.specs.Search.{first_in, last_in}
 use Rattle.cells.proofs.Search.{first_range, last-range}
 use Rattle.cursor.specs.declared.Cursor.{Cursor}
 use Rattle.cursor.specs.Cursor.{InPlace}
@@ -16,14 +15,14 @@ use Rattle.cursor.specs.Stops.{is_stop, at_stop, tabbed, back_tabbed}
 use Rattle.cursor.proofs.Place.{gone-in, column-in, choose-in}
 
 module _ {rows : ℕ} {c : Cursor} (g : InPlace rows c) (stops : List Bool) where
-  stop-in : (f : Found) → ((col : ℕ) → f ≡ At col → col < 80) → InPlace rows (at_stop rows c f)
-  stop-in (At col) h = column-in g (h col refl)
-  stop-in Nothing h =
+  stop-in : (f : Option ℕ) → ((col : ℕ) → f ≡ Some col → col < 80) → InPlace rows (at_stop rows c f)
+  stop-in (Some col) h = column-in g (h col refl)
+  stop-in None h =
       choose-in (ltb (c.row + 1) rows) (λ e. gone-in g {row = c.row + 1} {col = 0} (ltb-true _ _ e) (omega arith)) g
 
-  at-or-in : (f : Found) → ((col : ℕ) → f ≡ At col → col < 80) → at_or 0 f < 80
-  at-or-in (At col) h = h col refl
-  at-or-in Nothing h = omega arith
+  at-or-in : (f : Option ℕ) → ((col : ℕ) → f ≡ Some col → col < 80) → unwrap_or f 0 < 80
+  at-or-in (Some col) h = h col refl
+  at-or-in None h = omega arith
 
   -- ---- the two moves
   pub tabbed-in : InPlace rows (tabbed rows stops c)

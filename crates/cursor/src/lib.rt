@@ -7,8 +7,6 @@ ghost use Rattle.cursor.specs.Cursor.{top_for, gone, cell_of, at_cell, gone_up, 
 ghost use Rattle.cursor.specs.Addressing.{signed, aimed, held_to, to_column, to_row, to_window_row};
 ghost use Rattle.cursor.specs.Stops.{is_stop, tabbed, back_tabbed};
 
-use cells::Found;
-
 #[derive(Clone, Copy)]
 pub struct Cursor {
     pub row: usize,
@@ -173,8 +171,8 @@ impl Cursor {
     {
         let found = next_stop(stops, self.col + 1);
         match found {
-            Found::At(col) => self.go_in(col),
-            Found::Nothing => self.next_row(rows),
+            Some(col) => self.go_in(col),
+            None => self.next_row(rows),
         }
     }
 
@@ -195,27 +193,27 @@ impl Cursor {
     {
         let found = last_stop(stops, self.col);
         match found {
-            Found::At(col) => self.go_in(col),
-            Found::Nothing => self.go_in(0),
+            Some(col) => self.go_in(col),
+            None => self.go_in(0),
         }
     }
 }
 
-fn next_stop(stops: [bool; 80], from: usize) -> Found
+fn next_stop(stops: [bool; 80], from: usize) -> Option<usize>
     requires { from ≤ 80 }
     ensures { result ≡ first_in is_stop stops from 80 }
 {
     let mut i = from;
     while i < 80 {
         if stops[i] {
-            return Found::At(i);
+            return Some(i);
         }
         i += 1;
     }
-    Found::Nothing
+    None
 }
 
-fn last_stop(stops: [bool; 80], to: usize) -> Found
+fn last_stop(stops: [bool; 80], to: usize) -> Option<usize>
     requires { to ≤ 80 }
     ensures { result ≡ last_in is_stop stops 0 to }
 {
@@ -223,10 +221,10 @@ fn last_stop(stops: [bool; 80], to: usize) -> Found
     while 0 < i {
         i -= 1;
         if stops[i] {
-            return Found::At(i);
+            return Some(i);
         }
     }
-    Found::Nothing
+    None
 }
 
 // The top nearest to `top` that shows the row.

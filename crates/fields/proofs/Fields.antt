@@ -7,9 +7,8 @@ use mathlib.Core.List.{List}
 use native.Mathlib.Omega.{arith}
 use native.Mathlib.Decide.{dec_lt, ℕ_discrete}
 use lib.ListN.{length, get_or, get_or-eq_default}
-use Rattle.cells.specs.declared.Found.{Found}
-use Rattle.cells.specs.declared.Found.TheVariants.{At, Nothing}
-use Rattle.cells.specs.Search.{at_or, first_in}
+use Rattle.std.specs.Prelude.{Option, Some, None, unwrap_or}
+use Rattle.cells.specs.Search.{first_in}
 use Rattle.cells.proofs.Finds.{FindsFirst}
 use Rattle.cells.proofs.Search.{not-both, first-cut, first_finds}
 use Rattle.fields.specs.Fields.{is_in, end_of_row, field_end, kind_at, unprotected}
@@ -30,15 +29,15 @@ field-ends ms cell = go (dec_lt (length ms) (end_of_row cell))
     past_end : (j : ℕ) → length ms ≤ j → is_in 5 (get_or ms j 0) ≡ false
     past_end j h = rw (get_or-eq_default ms 0 {n = j} h) (out-low 5)
 
-    whole : (hi : ℕ) → hi ≤ end_of_row cell → ((j : ℕ) → hi ≤ j → j < end_of_row cell → is_in 5 (get_or ms j 0) ≡ false) → (f : Found) → FindsFirst (is_in 5) 0 ms (cell + 1) hi f → Ends ms cell (at_or (end_of_row cell) f)
-    whole hi l above (At e) r = record { past = omega (arith, r.low); within = omega (arith, r.high); none = λ j a b. r.none j (omega arith) b; stop = λ _. r.hit }
-    whole hi l above Nothing r = record { past = omega arith; within = omega arith; none = λ j a b. either j a b (dec_lt j hi); stop = λ w. absurd (omega arith) }
+    whole : (hi : ℕ) → hi ≤ end_of_row cell → ((j : ℕ) → hi ≤ j → j < end_of_row cell → is_in 5 (get_or ms j 0) ≡ false) → (f : Option ℕ) → FindsFirst (is_in 5) 0 ms (cell + 1) hi f → Ends ms cell (unwrap_or f (end_of_row cell))
+    whole hi l above (Some e) r = record { past = omega (arith, r.low); within = omega (arith, r.high); none = λ j a b. r.none j (omega arith) b; stop = λ _. r.hit }
+    whole hi l above None r = record { past = omega arith; within = omega arith; none = λ j a b. either j a b (dec_lt j hi); stop = λ w. absurd (omega arith) }
       where
         either : (j : ℕ) → cell < j → j < end_of_row cell → Dec (j < hi) → is_in 5 (get_or ms j 0) ≡ false
         either j a b (yes h) = r j (omega arith) h
         either j a b (no h) = above j (omega arith) b
 
-    go : Dec (length ms < end_of_row cell) → Ends ms cell (at_or (end_of_row cell) (first_in (is_in 5) ms (cell + 1) (end_of_row cell)))
+    go : Dec (length ms < end_of_row cell) → Ends ms cell (unwrap_or (first_in (is_in 5) ms (cell + 1) (end_of_row cell)) (end_of_row cell))
     go (yes h) =
         rw (first-cut (is_in 5) ms (cell + 1) (end_of_row cell) (omega arith))
         (whole (length ms) (omega arith) (λ j a b. past_end j a) (first_in (is_in 5) ms (cell + 1) (length ms)) (first_finds (is_in 5) 0 ms (cell + 1) (length ms) (omega arith)))

@@ -5,4 +5,3 @@ pub mod Fields
 pub mod Starts
 pub mod Numbers
 pub mod Scans
-pub mod Spots

@@ -9,8 +9,7 @@ use native.Mathlib.Decide.{dec_lt, le_ind}
 use lib.Dec.{eqb}
 use borrow.Author.Tests.{eq-eqb, eqb-true}
 use lib.ListN.{length, get_or}
-use Rattle.cells.specs.declared.Found.{Found}
-use Rattle.cells.specs.declared.Found.TheVariants.{At, Nothing}
+use Rattle.std.specs.Prelude.{Option, Some, None}
 use Rattle.cells.specs.Search.{nth_of, count_in}
 use Rattle.cells.proofs.Finds.{NthIs, FindsNth}
 use Rattle.cells.proofs.Search.{not-both, count-hit, count-miss, count_cut, count-alike, count-all, nth-finds, nth-is, nth-found}
@@ -41,7 +40,7 @@ module _ (ms : List ℕ) where
   unfolding is_in
   transmit-kept start e = number-kept start (ap (is_in 3) e)
 
-  pub transmit-not-found : (n start : ℕ) → nth_field ms n ≡ At start → get_or ms start 0 ≡ 4 → ⊥
+  pub transmit-not-found : (n start : ℕ) → nth_field ms n ≡ Some start → get_or ms start 0 ≡ 4 → ⊥
   transmit-not-found n start e f = omega (arith, in-high 3 (get_or ms start 0) (nth-is-start ms n start e))
 
   -- ---- the cells from t up to the field's end have one number
@@ -60,18 +59,18 @@ module _ (ms : List ℕ) where
           ∙ ih (omega arith)
 
   -- ---- number and n-th field are inverse
-  pub nth_number : (n start : ℕ) → nth_field ms n ≡ At start → field_number ms start ≡ n
+  pub nth_number : (n start : ℕ) → nth_field ms n ≡ Some start → field_number ms start ≡ n
   unfolding nth_field
   nth_number n start e =
       let r : NthIs (is_in 3) 0 ms n start = nth-found (is_in 3) 0 ms n e in
       number-start start r.hit ∙ r.before
 
-  pub start-nth : (start : ℕ) → is_in 3 (get_or ms start 0) ≡ true → nth_field ms (field_number ms start) ≡ At start
+  pub start-nth : (start : ℕ) → is_in 3 (get_or ms start 0) ≡ true → nth_field ms (field_number ms start) ≡ Some start
   unfolding nth_field
   start-nth start t =
-      nth-is (is_in 3) 0 ms (field_number ms start) (At start) (record { high = marked-inside 3 ms start t; hit = t; before = sym (number-start start t) })
+      nth-is (is_in 3) 0 ms (field_number ms start) (Some start) (record { high = marked-inside 3 ms start t; hit = t; before = sym (number-start start t) })
 
-  pub number-nth : (cell : ℕ) → unprotected ms cell ≡ true → (start : ℕ) × (nth_field ms (field_number ms cell) ≡ At start) × (start ≤ cell) × (cell < field_end ms start)
+  pub number-nth : (cell : ℕ) → unprotected ms cell ≡ true → (start : ℕ) × (nth_field ms (field_number ms cell) ≡ Some start) × (start ≤ cell) × (cell < field_end ms start)
   number-nth cell t =
       let f = unprotected-field ms cell t in
       let i : InField ms f.0 cell = f.2 in
@@ -100,13 +99,13 @@ module _ (ms : List ℕ) where
   holds-in n t k l u = rw (unprotected-in ms t k l u, number_in t k l u) refl
 
   -- ---- the cells that field n holds are those from its start up to its end
-  pub nth-holds : (n start : ℕ) → nth_field ms n ≡ At start → holds ms n start ≡ true
+  pub nth-holds : (n start : ℕ) → nth_field ms n ≡ Some start → holds ms n start ≡ true
   nth-holds n start e = is_held n start (start-unprotected ms start (nth-is-start ms n start e)) (nth_number n start e)
 
-  pub field-holds : (n start cell : ℕ) → nth_field ms n ≡ At start → start ≤ cell → cell < field_end ms start → holds ms n cell ≡ true
+  pub field-holds : (n start cell : ℕ) → nth_field ms n ≡ Some start → start ≤ cell → cell < field_end ms start → holds ms n cell ≡ true
   field-holds n start cell e l u = holds-in n start cell l u ∙ nth-holds n start e
 
-  pub holds-field : (n cell : ℕ) → holds ms n cell ≡ true → (start : ℕ) × (nth_field ms n ≡ At start) × (start ≤ cell) × (cell < field_end ms start)
+  pub holds-field : (n cell : ℕ) → holds ms n cell ≡ true → (start : ℕ) × (nth_field ms n ≡ Some start) × (start ≤ cell) × (cell < field_end ms start)
   holds-field n cell t =
       let r = number-nth cell (holds-unprotected n cell t) in
       (r.0, ap (nth_field ms) (sym (holds-number n cell t)) ∙ r.1, r.2, r.3)
@@ -124,7 +123,7 @@ module _ (xs ys : List ℕ) (n : length xs ≡ length ys) (alike : (j : ℕ) →
   unfolding nth_field
   nth-same i = sym (nth-is (is_in 3) 0 ys i (nth_of (is_in 3) i 0 xs) (same (nth_of (is_in 3) i 0 xs) (nth-finds (is_in 3) 0 xs i)))
     where
-      same : (f : Found) → FindsNth (is_in 3) 0 xs i f → FindsNth (is_in 3) 0 ys i f
-      same (At k) r =
+      same : (f : Option ℕ) → FindsNth (is_in 3) 0 xs i f → FindsNth (is_in 3) 0 ys i f
+      same (Some k) r =
           record { high = omega (arith, r.high); hit = sym (alike k) ∙ r.hit; before = sym (count_same k (omega (arith, r.high))) ∙ r.before }
-      same Nothing r = omega (arith, count-all (is_in 3) 0 xs, count-all (is_in 3) 0 ys, count_same (length xs) (omega arith), ap (count_in (is_in 3) ys 0) n)
+      same None r = omega (arith, count-all (is_in 3) 0 xs, count-all (is_in 3) 0 ys, count_same (length xs) (omega arith), ap (count_in (is_in 3) ys 0) n)

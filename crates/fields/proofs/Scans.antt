@@ -10,7 +10,7 @@ use lib.Dec.{eqb}
 use lib.ListN.{length, get_or}
 use Rattle.cells.specs.Search.{first_in, last_in, count_in, nth_of}
 use Rattle.cells.proofs.Search.{first-map, last-map, count_map, nth-map, first_short, last-short, else-first, else-second, Downto, down-hit, down-end}
-use Rattle.cells.specs.declared.Found.TheVariants.{At, Nothing}
+use Rattle.std.specs.Prelude.{Some, None}
 use Rattle.fields.specs.Fields.{mark_of, marks, is_in, start_of_row, mark_found, kind_at, unprotected, next_start, prev_start, non_blank, row_under, row_under_text}
 use Rattle.fields.specs.Walk.{kind_after}
 use Rattle.fields.proofs.Marks.{mark-at, length-marks}
@@ -78,22 +78,22 @@ onward-next {attrs} i {j} e n =
 
 -- ---- tab and back tab in two searches that share no cell
 module _ (attrs : List ℕ) (cell : ℕ) where
-  pub next-after : {i : ℕ} → first_in (is_in 3) (marks attrs) (cell + 1) (length attrs) ≡ At i → At i ≡ next_start (marks attrs) cell
+  pub next-after : {i : ℕ} → first_in (is_in 3) (marks attrs) (cell + 1) (length attrs) ≡ Some i → Some i ≡ next_start (marks attrs) cell
   unfolding next_start
   next-after e = else-first _ (ap (first_in (is_in 3) (marks attrs) (cell + 1)) (length-marks attrs) ∙ e)
 
-  pub next-around : cell < length attrs → first_in (is_in 3) (marks attrs) (cell + 1) (length attrs) ≡ Nothing → first_in (is_in 3) (marks attrs) 0 (cell + 1) ≡ next_start (marks attrs) cell
+  pub next-around : cell < length attrs → first_in (is_in 3) (marks attrs) (cell + 1) (length attrs) ≡ None → first_in (is_in 3) (marks attrs) 0 (cell + 1) ≡ next_start (marks attrs) cell
   unfolding next_start
   next-around h e =
-      let n : first_in (is_in 3) (marks attrs) (cell + 1) (length (marks attrs)) ≡ Nothing = ap (first_in (is_in 3) (marks attrs) (cell + 1)) (length-marks attrs) ∙ e in
+      let n : first_in (is_in 3) (marks attrs) (cell + 1) (length (marks attrs)) ≡ None = ap (first_in (is_in 3) (marks attrs) (cell + 1)) (length-marks attrs) ∙ e in
       sym (first_short (is_in 3) (marks attrs) 0 (cell + 1) (length (marks attrs)) (omega arith) (omega (arith, length-marks attrs)) (omega arith) n)
       ∙ else-second _ n
 
-  pub prev-before : {i : ℕ} → last_in (is_in 3) (marks attrs) 0 cell ≡ At i → At i ≡ prev_start (marks attrs) cell
+  pub prev-before : {i : ℕ} → last_in (is_in 3) (marks attrs) 0 cell ≡ Some i → Some i ≡ prev_start (marks attrs) cell
   unfolding prev_start
   prev-before e = else-first _ e
 
-  pub prev-around : cell < length attrs → last_in (is_in 3) (marks attrs) 0 cell ≡ Nothing → last_in (is_in 3) (marks attrs) cell (length attrs) ≡ prev_start (marks attrs) cell
+  pub prev-around : cell < length attrs → last_in (is_in 3) (marks attrs) 0 cell ≡ None → last_in (is_in 3) (marks attrs) cell (length attrs) ≡ prev_start (marks attrs) cell
   unfolding prev_start
   prev-around h e =
       ap (last_in (is_in 3) (marks attrs) cell) (sym (length-marks attrs))

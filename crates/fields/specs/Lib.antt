@@ -1,4 +1,3 @@
 -- The definitions of fields.
 pub mod Fields
 pub mod Walk
-pub mod Spots

@@ -4,10 +4,7 @@
 ghost use Rattle.std.specs.Prelude.{◌≡◌, ◌+◌, ◌-◌, ◌*◌, ◌/◌, ◌≤◌, ◌<◌, length};
 ghost use Rattle.cells.specs.Search.{first_in, last_in, count_in};
 ghost use Rattle.fields.specs.Walk.{kind_after};
-ghost use Rattle.fields.specs.Spots.{spot_of};
 ghost use Rattle.fields.specs.Fields.{mark_of, marks, is_in, kind_at, unprotected, field_end, first_start, next_start, prev_start, nth_field, target, allowed, non_blank, row_under_text};
-
-use cells::Found;
 
 // Whether a mark is 1 to `highest`.
 pub fn is_in(highest: u8, mark: u8) -> bool
@@ -23,114 +20,65 @@ pub fn has_mark(a: u8, highest: u8) -> bool
     is_in(highest, a % 16)
 }
 
-// What a search by rows and columns finds: a row and a column, or nothing.
-#[derive(Clone, Copy)]
-pub enum Spot {
-    In(usize, usize),
-    Nowhere,
-}
-
-// `a` less `b`, at least 0.
-fn less(a: usize, b: usize) -> usize
-    ensures { result ≡ a - b }
+// The first of the cells `from` to `to - 1` whose mark is 1 to `highest`.
+fn first_mark(attrs: &[u8], from: usize, to: usize, highest: u8) -> Option<usize>
+    requires { (from ≤ to) × (to ≤ length attrs.now) }
+    ensures { result ≡ first_in (is_in highest) (marks attrs.now) from to }
 {
-    if b < a { a - b } else { 0 }
-}
-
-// The first place from a row and a column on, before cell `to`, whose mark is 1 to `highest`.
-fn first_spot(attrs: &[u8], from: usize, at: usize, to: usize, highest: u8) -> Spot
-    requires { (at ≤ 80) × (from * 80 + at ≤ length attrs.now) × (to ≤ length attrs.now) }
-    ensures { result ≡ spot_of (first_in (is_in highest) (marks attrs.now) (from * 80 + at) to) }
-{
-    let mut row = from;
-    let mut col = at;
-    'rows: loop {
-        let start = row * 80;
-        if to <= start {
-            break 'rows Spot::Nowhere;
+    let mut i = from;
+    while i < to {
+        if has_mark(attrs[i], highest) {
+            return Some(i);
         }
-        let width = cells::least(80, to - start);
-        while col < width {
-            if has_mark(attrs[start + col], highest) {
-                break 'rows Spot::In(row, col);
-            }
-            col += 1;
-        }
-        col = 0;
-        row += 1;
+        i += 1;
     }
+    None
 }
 
-// The last place from cell `from` on, before a row and a column, whose mark is 1 to `highest`.
-fn last_spot(attrs: &[u8], from: usize, to: usize, at: usize, highest: u8) -> Spot
-    requires { (at ≤ 80) × (from ≤ to * 80 + at) × (to * 80 + at ≤ length attrs.now) }
-    ensures { result ≡ spot_of (last_in (is_in highest) (marks attrs.now) from (to * 80 + at)) }
+// The last of them.
+fn last_mark(attrs: &[u8], from: usize, to: usize, highest: u8) -> Option<usize>
+    requires { (from ≤ to) × (to ≤ length attrs.now) }
+    ensures { result ≡ last_in (is_in highest) (marks attrs.now) from to }
 {
-    let mut row = to;
-    let mut col = at;
-    'rows: loop {
-        let start = row * 80;
-        let first = less(from, start);
-        let mut left = col - first;
-        while 0 < left {
-            left -= 1;
-            if has_mark(attrs[start + first + left], highest) {
-                break 'rows Spot::In(row, first + left);
-            }
+    let mut i = to;
+    while from < i {
+        i -= 1;
+        if has_mark(attrs[i], highest) {
+            return Some(i);
         }
-        if start <= from {
-            break 'rows Spot::Nowhere;
-        }
-        row -= 1;
-        col = 80;
     }
+    None
 }
 
-// Tab: the first unprotected field start after a place, else the first of all; no cell is looked at twice.
-pub fn next_spot(attrs: &[u8], row: usize, col: usize) -> Spot
-    requires { (col < 80) × (row * 80 + col < length attrs.now) }
-    ensures { result ≡ spot_of (next_start (marks attrs.now) (row * 80 + col)) }
-{
-    let after = first_spot(attrs, row, col + 1, attrs.len(), 3);
-    match after {
-        Spot::In(r, c) => Spot::In(r, c),
-        Spot::Nowhere => first_spot(attrs, 0, 0, row * 80 + col + 1, 3),
-    }
-}
-
-// Back tab: the last unprotected field start before a place, else the last of all; no cell is looked at twice.
-pub fn prev_spot(attrs: &[u8], row: usize, col: usize) -> Spot
-    requires { (col < 80) × (row * 80 + col < length attrs.now) }
-    ensures { result ≡ spot_of (prev_start (marks attrs.now) (row * 80 + col)) }
-{
-    let before = last_spot(attrs, 0, row, col, 3);
-    match before {
-        Spot::In(r, c) => Spot::In(r, c),
-        Spot::Nowhere => last_spot(attrs, row * 80 + col, attrs.len() / 80, attrs.len() % 80, 3),
-    }
-}
-
-// The cell where tab goes.
-pub fn next_start(attrs: &[u8], cell: usize) -> Found
+// Tab: the first unprotected field start after a cell, else the first of all; no cell is looked at twice.
+pub fn next_start(attrs: &[u8], cell: usize) -> Option<usize>
     requires { cell < length attrs.now }
     ensures { result ≡ next_start (marks attrs.now) cell }
 {
-    let next = next_spot(attrs, cell / 80, cell % 80);
-    match next {
-        Spot::In(row, col) => Found::At(row * 80 + col),
-        Spot::Nowhere => Found::Nothing,
+    let after = first_mark(attrs, cell + 1, attrs.len(), 3);
+    match after {
+        Some(k) => Some(k),
+        None => first_mark(attrs, 0, cell + 1, 3),
+    }
+}
+
+// Back tab: the last unprotected field start before a cell, else the last of all; no cell is looked at twice.
+pub fn prev_start(attrs: &[u8], cell: usize) -> Option<usize>
+    requires { cell < length attrs.now }
+    ensures { result ≡ prev_start (marks attrs.now) cell }
+{
+    let before = last_mark(attrs, 0, cell, 3);
+    match before {
+        Some(k) => Some(k),
+        None => last_mark(attrs, cell, attrs.len(), 3),
     }
 }
 
 // Home: the first field whose mark is 1 to `highest`.
-pub fn first_start(attrs: &[u8], highest: u8) -> Found
+pub fn first_start(attrs: &[u8], highest: u8) -> Option<usize>
     ensures { result ≡ first_start highest (marks attrs.now) }
 {
-    let first = first_spot(attrs, 0, 0, attrs.len(), highest);
-    match first {
-        Spot::In(row, col) => Found::At(row * 80 + col),
-        Spot::Nowhere => Found::Nothing,
-    }
+    first_mark(attrs, 0, attrs.len(), highest)
 }
 
 // The kind of cell `i` from its mark and the kind of the cell before it.
@@ -204,7 +152,7 @@ fn count_starts(attrs: &[u8], from: usize) -> usize
 }
 
 // Where the unprotected field number `n` starts: 16 cells one by one, then 16 at a time up to those that have it, and these one by one.
-pub fn nth_field(attrs: &[u8], n: usize) -> Found
+pub fn nth_field(attrs: &[u8], n: usize) -> Option<usize>
     ensures { result ≡ nth_field (marks attrs.now) n }
 {
     let mut left = n;
@@ -214,7 +162,7 @@ pub fn nth_field(attrs: &[u8], n: usize) -> Found
         while i < end {
             if has_mark(attrs[i], 3) {
                 if left == 0 {
-                    return Found::At(i);
+                    return Some(i);
                 }
                 left -= 1;
             }
@@ -229,16 +177,16 @@ pub fn nth_field(attrs: &[u8], n: usize) -> Found
             i += 16;
         }
     }
-    Found::Nothing
+    None
 }
 
 // The cell that takes text with format on.
-pub fn find_target(attrs: &[u8], cell: usize) -> Found
+pub fn find_target(attrs: &[u8], cell: usize) -> Option<usize>
     requires { cell < length attrs.now }
     ensures { result ≡ target (marks attrs.now) cell }
 {
     if is_unprotected(attrs, cell) {
-        return Found::At(cell);
+        return Some(cell);
     }
     next_start(attrs, cell)
 }
@@ -277,7 +225,7 @@ pub fn row_under_text(chars: &[u8], rows: usize) -> usize
 }
 
 // The last non-blank of the cells `from` to `to - 1`.
-pub fn last_text(chars: &[u8], from: usize, to: usize) -> Found
+pub fn last_text(chars: &[u8], from: usize, to: usize) -> Option<usize>
     requires { to ≤ length chars.now }
     ensures { result ≡ last_in non_blank chars.now from to }
 {
@@ -286,8 +234,8 @@ pub fn last_text(chars: &[u8], from: usize, to: usize) -> Found
         i -= 1;
         let v = chars[i];
         if v != 32 {
-            return Found::At(i);
+            return Some(i);
         }
     }
-    Found::Nothing
+    None
 }

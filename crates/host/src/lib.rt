@@ -9,12 +9,12 @@ ghost use Rattle.host.specs.Texts.{types_freely};
 
 use changes::Changes;
 use streams::HostAnswer;
-use terminal::Terminal;
+use terminal::{Refusal, Size, Terminal};
 
 // The action of a byte, a sign that is not first settled.
 fn action_for(t: Terminal, table: &[u8; 896], byte: u8) -> u8
-    requires fact_1 { t.reading < 7 }
-    requires fact_2 { Tabled table.now }
+    requires reading { t.reading < 7 }
+    requires table { Tabled table.now }
     ensures { result ≡ action_for t byte }
 {
     t.number.settle(table::action(table, t.reading, byte))
@@ -59,7 +59,7 @@ fn types_freely(t: Terminal, rows: usize, byte: u8) -> bool
     t.cursor.row * 80 + t.cursor.col + 1 < rows * 80
 }
 
-// The bytes, up to the one whose reply does not fit.
+// The bytes, up to the one whose reply does not fit. A turn takes one byte or a run of them, so the place is counted by hand.
 fn feed_on(
     t: Terminal,
     rows: usize,
@@ -99,7 +99,7 @@ fn feed_on(
         let a = action_for(u, &table, b);
         if !streams::has_room(u, rows, chars, attrs, a, reply.len() - at) {
             return HostAnswer {
-                number: 7,
+                number: Refusal::Room.number(),
                 taken: i,
                 written: at,
                 state: u,
@@ -129,10 +129,9 @@ pub fn host_on(
     requires { (24 ≤ rows) × (rows ≤ 96) }
     ensures { host_left result chars.new attrs.new reply.new ≡ fed rows (world t chars.old attrs.old) bytes.now reply.old }
 {
-    let n = streams::refuse(t, rows, chars, attrs);
-    if n != 0 {
+    if let Err(refusal) = t.check(rows, chars, attrs) {
         return HostAnswer {
-            number: n,
+            number: refusal.number(),
             taken: 0,
             written: 0,
             state: t,
@@ -141,28 +140,15 @@ pub fn host_on(
     feed_on(t, rows, chars, attrs, bytes, reply)
 }
 
-// Host bytes, in a memory of 96 rows. Takes any state, any buffers and any bytes; 1 and 2 change nothing, 7 stops before the byte whose reply does not fit.
-pub fn host(
+// Host bytes, in a memory of a size. Takes any state, any buffers and any bytes; 1 and 2 change nothing, 7 stops before the byte whose reply does not fit.
+pub fn host<S: Size>(
     t: Terminal,
     chars: &mut [u8],
     attrs: &mut [u8],
     bytes: &[u8],
     reply: &mut [u8],
 ) -> HostAnswer
-    ensures { host_left result chars.new attrs.new reply.new ≡ fed 96 (world t chars.old attrs.old) bytes.now reply.old }
+    ensures { host_left result chars.new attrs.new reply.new ≡ fed S.size (world t chars.old attrs.old) bytes.now reply.old }
 {
-    host_on(t, 96, chars, attrs, bytes, reply)
-}
-
-// `host` in a memory of 48 rows.
-pub fn host_48(
-    t: Terminal,
-    chars: &mut [u8],
-    attrs: &mut [u8],
-    bytes: &[u8],
-    reply: &mut [u8],
-) -> HostAnswer
-    ensures { host_left result chars.new attrs.new reply.new ≡ fed 48 (world t chars.old attrs.old) bytes.now reply.old }
-{
-    host_on(t, 48, chars, attrs, bytes, reply)
+    host_on(t, S::rows(), chars, attrs, bytes, reply)
 }

@@ -6,8 +6,7 @@ use Prim.Native.Nat.{ℕ, ◌≤◌}
 use native.Mathlib.Omega.{arith}
 use lib.Dec.{eqb, leb}
 use borrow.Author.Tests.{eqb-true, eqb-false, leb-true, not-true}
-use Rattle.cells.specs.declared.Found.{Found}
-use Rattle.cells.specs.declared.Found.TheVariants.{At, Nothing}
+use Rattle.std.specs.Prelude.{Option, Some, None}
 use Rattle.cells.proofs.Search.{not-both}
 use Rattle.cursor.specs.Cursor.{cell_of}
 use Rattle.cells.specs.Range.{within}
@@ -37,17 +36,17 @@ unnamed p (q ∷ ps) f t n = go (eqb q.field f) refl (unnamed p ps f b.1 n)
     go false e ih = ih
 
 -- the field ends before the cell, or is none
-abbrev ends_before : List ℕ → ℕ → Found → Bool
-ends_before ms cell (At k) = leb (field_end ms k) cell
-ends_before ms cell Nothing = true
+abbrev ends_before : List ℕ → ℕ → Option ℕ → Bool
+ends_before ms cell (Some k) = leb (field_end ms k) cell
+ends_before ms cell None = true
 
-abbrev holds_not : List ℕ → ℕ → Found → Bool
-holds_not ms f (At k) = not (holds ms f k)
-holds_not ms f Nothing = true
+abbrev holds_not : List ℕ → ℕ → Option ℕ → Bool
+holds_not ms f (Some k) = not (holds ms f k)
+holds_not ms f None = true
 
-abbrev is_none : Found → Bool
-is_none (At k) = false
-is_none Nothing = true
+abbrev is_none : Option ℕ → Bool
+is_none (Some k) = false
+is_none None = true
 
 -- the key does not reach the field
 unfoldable pub spares : ℕ → List ℕ → ℕ → ℕ → Bool
@@ -64,21 +63,21 @@ refuted true p q = p
 refuted false p q = q
 
 module _ (code : ℕ) (ms : List ℕ) (cell f : ℕ) where
-  not-in-target : (k : ℕ) (g : Found) → g ≡ At k → holds ms f k ≡ true → ¬ (holds_not ms f g ≡ true)
+  not-in-target : (k : ℕ) (g : Option ℕ) → g ≡ Some k → holds ms f k ≡ true → ¬ (holds_not ms f g ≡ true)
   not-in-target k g e h t =
-      let r : not (holds ms f k) ≡ true = subst (λ (g : Found). holds_not ms f g ≡ true) e t in
+      let r : not (holds ms f k) ≡ true = subst (λ (g : Option ℕ). holds_not ms f g ≡ true) e t in
       not-both h (not-true (holds ms f k) r)
 
   not_after : (k : ℕ) → cell ≤ k → holds ms f k ≡ true → ¬ (ends_before ms cell (nth_field ms f) ≡ true)
   not_after k l h t =
       let r = holds-field ms f k h in
-      let u : leb (field_end ms r.0) cell ≡ true = subst (λ (g : Found). ends_before ms cell g ≡ true) r.1 t in
+      let u : leb (field_end ms r.0) cell ≡ true = subst (λ (g : Option ℕ). ends_before ms cell g ≡ true) r.1 t in
       omega (arith, leb-true (field_end ms r.0) cell u, r.3)
 
   not_none : (k : ℕ) → holds ms f k ≡ true → ¬ (is_none (nth_field ms f) ≡ true)
   not_none k h t =
       let r = holds-field ms f k h in
-      false≢true (subst (λ (g : Found). is_none g ≡ true) r.1 t)
+      false≢true (subst (λ (g : Option ℕ). is_none g ≡ true) r.1 t)
 
   spared : Reaches code ms cell f → ¬ (spares code ms cell f ≡ true)
   unfolding spares

@@ -8,7 +8,7 @@ use lib.ListN.{length, drop, length-set}
 use lib.Seq.{drop-set-lt}
 use lib.Dec.{ltb, eqb}
 use borrow.Author.Tests.{eqb-true, eqb-false, eq-eqb, ltb-false, not-false}
-use Rattle.cells.specs.Search.{is_nothing}
+use Rattle.std.specs.Prelude.{is_none}
 use Rattle.cells.specs.Range.{within}
 use Rattle.cursor.specs.Cursor.{cell_of}
 use Rattle.fields.specs.Fields.{marks, target}
@@ -40,7 +40,7 @@ key-ready rows w code room f e =
     let g = passed (not (is_good rows w.state)) (λ z. omega arith) s.1 in
     let a = passed (eqb (key_action code w.state.insert) Action.rest) (λ z. omega arith) g.1 in
     let b = passed (barred w.state) (λ z. omega arith) a.1 in
-    let n = passed (aims && is_nothing to) (λ z. omega arith) b.1 in
+    let n = passed (aims && is_none to) (λ z. omega arith) b.1 in
     let d = passed (aims && disallows ms code to) (λ z. omega arith) n.1 in
     let r = passed (eqb code enter && ltb room 1) (λ z. omega arith) d.1 in
     record {

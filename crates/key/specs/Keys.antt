@@ -1,8 +1,5 @@
 -- Keys (document 01, 'Keys and posts'): what a key does, and the number that it answers. Assumes nothing.
-use Rattle.std.specs.Prelude.{ℕ, ◌%◌, Bool, false, cond, ◌&&◌, not, List, [], ◌∷◌, length, take, set, ltb, eqb}
-use Rattle.cells.specs.declared.Found.{Found}
-use Rattle.cells.specs.declared.Found.TheVariants.{At, Nothing}
-use Rattle.cells.specs.Search.{is_nothing}
+use Rattle.std.specs.Prelude.{ℕ, ◌%◌, Bool, false, cond, ◌&&◌, not, List, [], ◌∷◌, length, take, set, ltb, eqb, Option, Some, None, is_none}
 use Rattle.cursor.specs.Cursor.{cell_of}
 use Rattle.cells.specs.Range.{within}
 use Rattle.fields.specs.Fields.{marks, kind_at, target, allowed}
@@ -45,9 +42,9 @@ abbrev pub enter : ℕ
 enter = 273
 
 -- the field of the target does not allow the character
-unfoldable pub disallows : List ℕ → ℕ → Found → Bool
-disallows ms v (At cell) = not (allowed (kind_at ms cell) v)
-disallows ms v Nothing = false
+unfoldable pub disallows : List ℕ → ℕ → Option ℕ → Bool
+disallows ms v (Some cell) = not (allowed (kind_at ms cell) v)
+disallows ms v None = false
 
 -- keys test 1, 2, 3, 4, 5, 6, 7; 5 and 6 are for text keys with format on, which go to the target
 unfoldable pub key_refusal : ℕ → World → ℕ → ℕ → ℕ
@@ -60,7 +57,7 @@ key_refusal rows w code room =
     ∷ (2 when not (is_good rows w.state))
     ∷ (3 when eqb (key_action code w.state.insert) Action.rest)
     ∷ (4 when barred w.state)
-    ∷ (5 when (aims && is_nothing found))
+    ∷ (5 when (aims && is_none found))
     ∷ (6 when (aims && disallows ms code found))
     ∷ (7 when (eqb code enter && ltb room 1))
     ∷ [])

@@ -14,7 +14,6 @@ ghost use Rattle.key.specs.Keys.{key_action, enter, key_refusal, key_left, keyed
 ghost use Rattle.key.specs.Aim.{aim_refusal};
 ghost use Rattle.key.specs.Pressed.{pressed, edits};
 
-use cells::Found;
 use changes::Changes;
 use cursor::Cursor;
 use terminal::Terminal;
@@ -51,11 +50,11 @@ fn refuse_text(attrs: &[u8], cell: usize, v: u8) -> u8
 {
     let to = fields::find_target(attrs, cell);
     match to {
-        Found::At(k) => {
+        Some(k) => {
             let kind = fields::kind_at(attrs, k);
             if fields::allows(kind, v) { 0 } else { 6 }
         }
-        Found::Nothing => 5,
+        None => 5,
     }
 }
 

@@ -12,7 +12,6 @@ ghost use Rattle.looks.specs.Looks.{changed};
 ghost use Rattle.changes.specs.Sets.{set_of};
 ghost use Rattle.changes.specs.Differing.{differs, differing_both};
 
-use cells::Found;
 use changes::Changes;
 use cursor::Cursor;
 
@@ -166,14 +165,14 @@ fn look_in(chars: &[u8], attrs: &[u8], rows: usize, cursor: Cursor, insert: bool
 {
     let to = fields::find_target(attrs, cursor.cell());
     match to {
-        Found::At(k) => {
+        Some(k) => {
             let kind = fields::kind_at(attrs, k);
             if fields::allows(kind, v) {
                 return Changes::one(k / 80, put_in_differs(chars, attrs, k, insert, v));
             }
             Changes::none()
         }
-        Found::Nothing => Changes::none(),
+        None => Changes::none(),
     }
 }
 

@@ -8,7 +8,7 @@ ghost use Rattle.plain.specs.Plain.{stepped_to, plainly_fed};
 
 use decisions::Step;
 use streams::HostAnswer;
-use terminal::Terminal;
+use terminal::{Refusal, Size, Terminal};
 
 // One byte, which the decisions have read: its action, then the reading state and the number after it.
 fn step(t: Terminal, rows: usize, chars: &mut [u8], attrs: &mut [u8], d: Step, byte: u8) -> Terminal
@@ -36,13 +36,11 @@ fn feed_on(
 {
     let mut u = t;
     let mut at = 0;
-    let mut i = 0;
-    while i < bytes.len() {
-        let byte = bytes[i];
+    for (i, &byte) in bytes.iter().enumerate() {
         let d = decisions::read(u.reading, u.number, byte);
         if !streams::has_room(u, rows, chars, attrs, d.action, reply.len() - at) {
             return HostAnswer {
-                number: 7,
+                number: Refusal::Room.number(),
                 taken: i,
                 written: at,
                 state: u,
@@ -50,7 +48,6 @@ fn feed_on(
         }
         at = streams::send(u, rows, chars, attrs, d.action, reply, at);
         u = step(u, rows, chars, attrs, d, byte);
-        i += 1;
     }
     HostAnswer {
         number: 0,
@@ -70,13 +67,12 @@ pub fn host_on(
     reply: &mut [u8],
 ) -> HostAnswer
     requires { (24 ≤ rows) × (rows ≤ 96) }
-    ensures reply_after { host_left result chars.new attrs.new reply.new ≡ fed rows (world t chars.old attrs.old) bytes.now reply.old }
-    ensures reply_after_2 { host_left result chars.new attrs.new reply.new ≡ plainly_fed rows (world t chars.old attrs.old) bytes.now reply.old }
+    ensures table { host_left result chars.new attrs.new reply.new ≡ fed rows (world t chars.old attrs.old) bytes.now reply.old }
+    ensures plain { host_left result chars.new attrs.new reply.new ≡ plainly_fed rows (world t chars.old attrs.old) bytes.now reply.old }
 {
-    let n = streams::refuse(t, rows, chars, attrs);
-    if n != 0 {
+    if let Err(refusal) = t.check(rows, chars, attrs) {
         return HostAnswer {
-            number: n,
+            number: refusal.number(),
             taken: 0,
             written: 0,
             state: t,
@@ -85,30 +81,16 @@ pub fn host_on(
     feed_on(t, rows, chars, attrs, bytes, reply)
 }
 
-// Host bytes, in a memory of 96 rows. Takes any state, any buffers and any bytes; 1 and 2 change nothing, 7 stops before the byte whose reply does not fit.
-pub fn host(
+// Host bytes, in a memory of a size. Takes any state, any buffers and any bytes; 1 and 2 change nothing, 7 stops before the byte whose reply does not fit.
+pub fn host<S: Size>(
     t: Terminal,
     chars: &mut [u8],
     attrs: &mut [u8],
     bytes: &[u8],
     reply: &mut [u8],
 ) -> HostAnswer
-    ensures reply_after { host_left result chars.new attrs.new reply.new ≡ fed 96 (world t chars.old attrs.old) bytes.now reply.old }
-    ensures reply_after_2 { host_left result chars.new attrs.new reply.new ≡ plainly_fed 96 (world t chars.old attrs.old) bytes.now reply.old }
+    ensures table { host_left result chars.new attrs.new reply.new ≡ fed S.size (world t chars.old attrs.old) bytes.now reply.old }
+    ensures plain { host_left result chars.new attrs.new reply.new ≡ plainly_fed S.size (world t chars.old attrs.old) bytes.now reply.old }
 {
-    host_on(t, 96, chars, attrs, bytes, reply)
-}
-
-// `host` in a memory of 48 rows.
-pub fn host_48(
-    t: Terminal,
-    chars: &mut [u8],
-    attrs: &mut [u8],
-    bytes: &[u8],
-    reply: &mut [u8],
-) -> HostAnswer
-    ensures reply_after { host_left result chars.new attrs.new reply.new ≡ fed 48 (world t chars.old attrs.old) bytes.now reply.old }
-    ensures reply_after_2 { host_left result chars.new attrs.new reply.new ≡ plainly_fed 48 (world t chars.old attrs.old) bytes.now reply.old }
-{
-    host_on(t, 48, chars, attrs, bytes, reply)
+    host_on(t, S::rows(), chars, attrs, bytes, reply)
 }

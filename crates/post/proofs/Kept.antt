@@ -9,8 +9,7 @@ use native.Mathlib.Omega.{arith}
 use lib.ListN.{length, replicate}
 use lib.Dec.{ltb, eqb}
 use borrow.Author.Tests.{eqb-true, ne_eqb, ltb-false, not-false}
-use Rattle.cells.specs.declared.Found.{Found}
-use Rattle.cells.specs.declared.Found.TheVariants.{At, Nothing}
+use Rattle.std.specs.Prelude.{Option, Some, None}
 use Rattle.cells.proofs.Patch.{eq-or}
 use Rattle.cells.proofs.Splice.{length-posted}
 use Rattle.fields.specs.Fields.{marks, kind_at, field_end, nth_field}
@@ -33,7 +32,7 @@ use Rattle.post.specs.Field.{field_refusal, posted_in, entered, field_refusal_if
 
 -- what a post into the field that starts at cell k leaves
 unfoldable pub done : ℕ → World → List ℕ → ℕ → Posted
-done rows w text k = record { number = 0; world = noted rows w (posted_at w text (At k)) }
+done rows w text k = record { number = 0; world = noted rows w (posted_at w text (Some k)) }
 
 -- the first four tests of a post pass
 pub record PostOpen (rows : ℕ) (w : World) : Type 0 where
@@ -48,7 +47,7 @@ pub post-open : {rows : ℕ} {w : World} → PostOpen rows w → (owned : Bool) 
 unfolding entered_if refusal_if posted_in_if field_refusal_if first_refusal
 post-open o owned field text = rw (o.sized, o.good, o.unbarred, o.formatted)
 
-pub post-found : {rows : ℕ} {w : World} → PostOpen rows w → (owned : Bool) (field : ℕ) (text : List ℕ) {f : Found} {p : Posted}
+pub post-found : {rows : ℕ} {w : World} → PostOpen rows w → (owned : Bool) (field : ℕ) (text : List ℕ) {f : Option ℕ} {p : Posted}
     → nth_field (marks w.attrs) field ≡ f → p ≡ posted_in_if w owned text f → p ≡ entered_if rows w owned field text
 post-found {rows} {w} o owned field text e q = q ∙ sym (post-open o owned field text ∙ ap (posted_in_if w owned text) e)
 
@@ -58,7 +57,7 @@ pub record PostReady (rows : ℕ) (w : World) (field : ℕ) (text : List ℕ) : 
   pub unbarred : barred w.state ≡ false
   pub formatted : w.state.format ≡ true
   pub start : ℕ
-  pub found : nth_field (marks w.attrs) field ≡ At start
+  pub found : nth_field (marks w.attrs) field ≡ Some start
   pub short : length text ≤ field_end (marks w.attrs) start - start
   pub fit : all_fit (kind_at (marks w.attrs) start) text ≡ true
   pub leaves : posted_to rows w field text ≡ done rows w text start
@@ -68,15 +67,15 @@ module _ (rows : ℕ) (w : World) (field : ℕ) (text : List ℕ) where
   unfolding posted_to
   post-number = refl
 
-  leaves-done : (k : ℕ) → post_refusal rows w field text ≡ 0 → nth_field (marks w.attrs) field ≡ At k → posted_to rows w field text ≡ done rows w text k
+  leaves-done : (k : ℕ) → post_refusal rows w field text ≡ 0 → nth_field (marks w.attrs) field ≡ Some k → posted_to rows w field text ≡ done rows w text k
   unfolding posted_to done
   leaves-done k n e = rw (n, e)
 
   -- by the field found
-  ready_at : rows ≤ 96 → PostOpen rows w → (f : Found) → nth_field (marks w.attrs) field ≡ f → field_refusal_if w true text f ≡ 0 → post_refusal rows w field text ≡ 0
+  ready_at : rows ≤ 96 → PostOpen rows w → (f : Option ℕ) → nth_field (marks w.attrs) field ≡ f → field_refusal_if w true text f ≡ 0 → post_refusal rows w field text ≡ 0
       → PostReady rows w field text
   unfolding field_refusal_if first_refusal is_too_long misfits
-  ready_at few o (At k) e z n =
+  ready_at few o (Some k) e z n =
       let l = passed (ltb (field_end (marks w.attrs) k - k) (length text)) (λ n. omega arith) z in
       let a = passed (not (all_fit (kind_at (marks w.attrs) k) text)) (λ n. omega arith) l.1 in
       let s = ltb-false (field_end (marks w.attrs) k - k) (length text) l.0 in
@@ -91,7 +90,7 @@ module _ (rows : ℕ) (w : World) (field : ℕ) (text : List ℕ) where
         fit = t;
         leaves = leaves-done k n e;
       }
-  ready_at few o Nothing e z n = absurd (omega arith)
+  ready_at few o None e z n = absurd (omega arith)
 
   pub post-ready : rows ≤ 96 → (posted_to rows w field text).number ≡ 0 → PostReady rows w field text
   unfolding posted_to post_refusal first_refusal field_refusal_if
@@ -115,15 +114,15 @@ module _ (rows : ℕ) (w : World) (field : ℕ) (text : List ℕ) where
   by_number P left go = choose-by P (eqb (post_refusal rows w field text) 0) (λ t. go (eqb-true (post_refusal rows w field text) 0 t)) (λ _. left)
 
   -- ---- a post leaves the state, its rows apart, and the attributes
-  at-state : (f : Found) → (posted_at w text f).state ≡ w.state
+  at-state : (f : Option ℕ) → (posted_at w text f).state ≡ w.state
   unfolding posted_at
-  at-state (At k) = refl
-  at-state Nothing = refl
+  at-state (Some k) = refl
+  at-state None = refl
 
-  at-attrs : (f : Found) → (posted_at w text f).attrs ≡ w.attrs
+  at-attrs : (f : Option ℕ) → (posted_at w text f).attrs ≡ w.attrs
   unfolding posted_at
-  at-attrs (At k) = refl
-  at-attrs Nothing = refl
+  at-attrs (Some k) = refl
+  at-attrs None = refl
 
   pub post-state : (posted_to rows w field text).world.state ≡ flagged w.state (posted_to rows w field text).world.state.changes
   post-state =
@@ -145,7 +144,7 @@ module _ (rows : ℕ) (w : World) (field : ℕ) (text : List ℕ) where
   post-refused n = rw (ne_eqb (post_refusal rows w field text) 0 n)
 
 -- ---- a field that is found lies in the memory
-pub field-inside : {rows : ℕ} {w : World} → Sound rows w → (field k : ℕ) → nth_field (marks w.attrs) field ≡ At k → (k < rows * 80) × (field_end (marks w.attrs) k ≤ rows * 80)
+pub field-inside : {rows : ℕ} {w : World} → Sound rows w → (field k : ℕ) → nth_field (marks w.attrs) field ≡ Some k → (k < rows * 80) × (field_end (marks w.attrs) k ≤ rows * 80)
 field-inside {rows} {w} s field k e =
     let m : length (marks w.attrs) ≡ rows * 80 = length-marks w.attrs ∙ s.attrs_long in
     let i = (nth-open (marks w.attrs) field k e).inside in
@@ -153,11 +152,11 @@ field-inside {rows} {w} s field k e =
 
 -- ---- a sound world stays sound
 module _ {rows : ℕ} {w : World} (s : Sound rows w) (text : List ℕ) (field : ℕ) where
-  done-sound : (k : ℕ) → nth_field (marks w.attrs) field ≡ At k → length text ≤ field_end (marks w.attrs) k - k → Sound rows (done rows w text k).world
+  done-sound : (k : ℕ) → nth_field (marks w.attrs) field ≡ Some k → length text ≤ field_end (marks w.attrs) k - k → Sound rows (done rows w text k).world
   unfolding done posted_at
   done-sound k e l =
       let i = field-inside s field k e in
-      noted-sound w {w = posted_at w text (At k)}
+      noted-sound w {w = posted_at w text (Some k)}
       (record {
         few = s.few;
         chars_long =
@@ -198,11 +197,11 @@ entered-noted rows t chars₀ chars attrs owned field text few e f j k =
     (λ z. (if-sound rows w owned field text few (eqb-true (refusal_if rows w owned field text) 0 z)).good) (ap (λ (p : Posted). p.world) e) f j k)
 
 -- ---- by one who owns the field a post is the one that names no reader
-pub field_refusal-owned : (w : World) (text : List ℕ) (f : Found) → field_refusal_if w true text f ≡ field_refusal w text f
+pub field_refusal-owned : (w : World) (text : List ℕ) (f : Option ℕ) → field_refusal_if w true text f ≡ field_refusal w text f
 unfolding field_refusal field_refusal_if first_refusal
 field_refusal-owned w text f = refl
 
-pub posted_in-owned : (w : World) (text : List ℕ) (f : Found) → posted_in_if w true text f ≡ posted_in w text f
+pub posted_in-owned : (w : World) (text : List ℕ) (f : Option ℕ) → posted_in_if w true text f ≡ posted_in w text f
 unfolding posted_in posted_in_if field_refusal field_refusal_if first_refusal
 posted_in-owned w text f = refl
 

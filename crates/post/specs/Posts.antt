@@ -1,8 +1,5 @@
 -- Posts (document 01, 'Keys and posts'): what a post does, and the number that it answers. Assumes nothing.
-use Rattle.std.specs.Prelude.{ℕ, ◌-◌, Bool, true, false, cond, ◌&&◌, not, List, [], ◌∷◌, length, ltb, eqb}
-use Rattle.cells.specs.declared.Found.{Found}
-use Rattle.cells.specs.declared.Found.TheVariants.{At, Nothing}
-use Rattle.cells.specs.Search.{is_nothing}
+use Rattle.std.specs.Prelude.{ℕ, ◌-◌, Bool, true, false, cond, ◌&&◌, not, List, [], ◌∷◌, length, ltb, eqb, Option, Some, None, is_none}
 use Rattle.cells.specs.Memory.{posted}
 use Rattle.cells.specs.Range.{within}
 use Rattle.fields.specs.Fields.{marks, kind_at, field_end, nth_field, allowed}
@@ -28,14 +25,14 @@ all_fit kind [] = true
 all_fit kind (b ∷ bs) = fits kind b && all_fit kind bs
 
 -- the text is longer than the field that starts there
-unfoldable pub is_too_long : List ℕ → List ℕ → Found → Bool
-is_too_long ms text (At start) = ltb (field_end ms start - start) (length text)
-is_too_long ms text Nothing = false
+unfoldable pub is_too_long : List ℕ → List ℕ → Option ℕ → Bool
+is_too_long ms text (Some start) = ltb (field_end ms start - start) (length text)
+is_too_long ms text None = false
 
 -- a byte of the text does not fit into it
-unfoldable pub misfits : List ℕ → List ℕ → Found → Bool
-misfits ms text (At start) = not (all_fit (kind_at ms start) text)
-misfits ms text Nothing = false
+unfoldable pub misfits : List ℕ → List ℕ → Option ℕ → Bool
+misfits ms text (Some start) = not (all_fit (kind_at ms start) text)
+misfits ms text None = false
 
 -- posts test 1, 2, 4, 8, 9, 10, 6
 unfoldable pub post_refusal : ℕ → World → ℕ → List ℕ → ℕ
@@ -47,7 +44,7 @@ post_refusal rows w field text =
     ∷ (2 when not (is_good rows w.state))
     ∷ (4 when barred w.state)
     ∷ (8 when not w.state.format)
-    ∷ (9 when is_nothing found)
+    ∷ (9 when is_none found)
     ∷ (10 when is_too_long ms text found)
     ∷ (6 when misfits ms text found)
     ∷ [])
@@ -62,16 +59,16 @@ post_tests rows w sized owned field text =
     ∷ (2 when not (is_good rows w.state))
     ∷ (4 when barred w.state)
     ∷ (8 when not w.state.format)
-    ∷ (9 when is_nothing found)
+    ∷ (9 when is_none found)
     ∷ (13 when not owned)
     ∷ (10 when is_too_long ms text found)
     ∷ (6 when misfits ms text found)
     ∷ []
 
 -- in the field that starts there: the text, then blanks to the field's end; nothing else changes
-unfoldable pub posted_at : World → List ℕ → Found → World
-posted_at w text (At start) = world w.state (posted w.chars start (field_end (marks w.attrs) start) text) w.attrs
-posted_at w text Nothing = w
+unfoldable pub posted_at : World → List ℕ → Option ℕ → World
+posted_at w text (Some start) = world w.state (posted w.chars start (field_end (marks w.attrs) start) text) w.attrs
+posted_at w text None = w
 
 -- the row that it changes is noted; a refusal leaves all
 unfoldable pub posted_to : ℕ → World → ℕ → List ℕ → Posted

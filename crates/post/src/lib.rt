@@ -2,14 +2,12 @@
 #![tactic(auto)]
 
 ghost use Rattle.std.specs.Prelude.{◌≡◌, false, ℕ, ◌*◌, ◌≤◌, ◌<◌, replicate};
-ghost use Rattle.cells.specs.declared.Found.TheVariants.{At};
 ghost use Rattle.changes.specs.Sets.{set_of};
 ghost use Rattle.changes.specs.Differing.{differing_both};
 ghost use Rattle.terminal.specs.State.{world, Sound};
 ghost use Rattle.post.specs.Posts.{fits, all_fit, post_left, posted_to};
 ghost use Rattle.post.specs.Field.{numbered, entered_if, posted_in_if, posted_if};
 
-use cells::Found;
 use changes::Changes;
 use terminal::Terminal;
 
@@ -74,7 +72,7 @@ fn post_field(
 ) -> Entry
     requires fact_1 { Sound rows (world t chars.old attrs.now) }
     requires fact_2 { k < rows * 80 }
-    ensures attrs_after { numbered result.number t chars.new attrs.now ≡ posted_in_if (world t chars.old attrs.now) owned text.now (At k) }
+    ensures attrs_after { numbered result.number t chars.new attrs.now ≡ posted_in_if (world t chars.old attrs.now) owned text.now (Some k) }
     ensures changes_value { result.changes ≡ set_of (differing_both rows chars.old attrs.now chars.new attrs.now) }
 {
     let end = fields::field_end(attrs, k);
@@ -129,8 +127,8 @@ fn post_to(
     }
     let start = fields::nth_field(attrs, field);
     match start {
-        Found::At(k) => post_field(t, rows, chars, attrs, owned, k, text),
-        Found::Nothing => leave(9),
+        Some(k) => post_field(t, rows, chars, attrs, owned, k, text),
+        None => leave(9),
     }
 }
 

@@ -8,7 +8,7 @@ use native.Mathlib.Omega.{arith}
 use lib.Dec.{leb, ltb}
 use lib.ListN.{length, get_or, drop, replicate, length-append, length-replicate}
 use borrow.Author.Tests.{leb-true, ltb-true, lt-ltb, le-ltb}
-use Rattle.cells.specs.Search.{at_or}
+use Rattle.std.specs.Prelude.{unwrap_or, Option}
 use Rattle.cells.specs.Memory.{inside, written, posted}
 use Rattle.cells.proofs.Search.{not-both}
 use Rattle.cells.proofs.Patch.{eq-or, inside-true}
@@ -62,7 +62,7 @@ module _ (rows : ℕ) (w : World) (field : ℕ) (text : List ℕ) (r : PostReady
   of_field : (cell : ℕ) → holds (marks w.attrs) field cell ≡ true → (r.start ≤ cell) × (cell < end)
   of_field cell h =
       let f = holds-field (marks w.attrs) field cell h in
-      let same : f.0 ≡ r.start = ap (at_or 0) (sym f.1 ∙ r.found) in
+      let same : f.0 ≡ r.start = ap (λ (f : Option ℕ). unwrap_or f 0) (sym f.1 ∙ r.found) in
       subst (λ (k : ℕ). (k ≤ cell) × (cell < field_end (marks w.attrs) k)) same (f.2, f.3)
 
   others : (cell : ℕ) → holds (marks w.attrs) field cell ≡ false → get_or (posted_to rows w field text).world.chars cell 0 ≡ get_or w.chars cell 0
@@ -156,7 +156,7 @@ post_reads_back rows few w owners reader field text out start z e room =
     let v = (posted_to rows w field text).world in
     let ms = marks w.attrs in
     let size = field_end ms start - start in
-    let at : r.start ≡ start = ap (at_or 0) (sym r.found ∙ e) in
+    let at : r.start ≡ start = ap (λ (f : Option ℕ). unwrap_or f 0) (sym r.found ∙ e) in
     let i = field-inside r.sound field start e in
     let attrs : v.attrs ≡ w.attrs = post-attrs rows w field text in
     let short : length text ≤ size = subst (λ (k : ℕ). length text ≤ field_end ms k - k) at r.short in

@@ -8,9 +8,7 @@ use lib.Dec.{eqb, ltb}
 use lib.ListN.{length, get_or, set, take}
 use lib.Seq.{slice, length-slice, get_or-take, get_or-drop, ext_get_or}
 use borrow.Author.Tests.{eqb-true, eqb-false, ne_eqb, not-true, not-false}
-use Rattle.cells.specs.declared.Found.{Found}
-use Rattle.cells.specs.declared.Found.TheVariants.{At, Nothing}
-use Rattle.cells.specs.Search.{is_nothing}
+use Rattle.std.specs.Prelude.{Option, Some, None, is_none}
 use Rattle.cells.proofs.Choices.{choose-by}
 use Rattle.fields.specs.Fields.{marks, field_number, field_end, nth_field}
 use Rattle.fields.proofs.Marks.{length-marks}
@@ -55,11 +53,11 @@ slice-same f t xs ys l m h =
 
 module _ (rows : ℕ) (owners : List ℕ) (r field : ℕ) (out : List ℕ) where
   -- what is read back, by whether the reader owns the field, where the field starts and what stands in it
-  abbrev back_with : Bool → Bool → Found → List ℕ → Read
+  abbrev back_with : Bool → Bool → Option ℕ → List ℕ → Read
   back_with table own found text =
-      read_with (first_refusal ((1 when not table) ∷ (9 when is_nothing found) ∷ (13 when not own) ∷ (7 when ltb (length out) (length text)) ∷ [])) text out
+      read_with (first_refusal ((1 when not table) ∷ (9 when is_none found) ∷ (13 when not own) ∷ (7 when ltb (length out) (length text)) ∷ [])) text out
 
-  abbrev place : World → Found
+  abbrev place : World → Option ℕ
   place x = nth_field (marks x.attrs) field
 
   back_is : (x : World) → Alive rows (known rows x) → read_back_of rows x owners r field out ≡ back_with (is_table owners) (owns owners r field) (place x) (text_in_field x (place x))
@@ -67,10 +65,10 @@ module _ (rows : ℕ) (owners : List ℕ) (r field : ℕ) (out : List ℕ) where
   back_is x a = let s = in-sound (sound {x = x} a) in rw (s.0, s.1, a.on)
 
   -- to one who does not own the field the text does not matter
-  unowned-back : (table : Bool) (f : Found) (p q : List ℕ) → back_with table false f p ≡ back_with table false f q
+  unowned-back : (table : Bool) (f : Option ℕ) (p q : List ℕ) → back_with table false f p ≡ back_with table false f q
   unfolding first_refusal
-  unowned-back true (At k) p q = refl
-  unowned-back true Nothing p q = refl
+  unowned-back true (Some k) p q = refl
+  unowned-back true None p q = refl
   unowned-back false f p q = refl
 
   module _ (Hidden : ℕ → Type 0) (mine : owns owners r field ≡ true → ¬ Hidden field) (x y : World) (a : Alive rows (known rows x)) (b : Alive rows (known rows y))
@@ -79,10 +77,10 @@ module _ (rows : ℕ) (owners : List ℕ) (r field : ℕ) (out : List ℕ) where
       same-marks : marks x.attrs ≡ marks y.attrs
       same-marks = ap (λ (s : Known). s.marks) e.states
 
-      same_text : owns owners r field ≡ true → (f : Found) → place x ≡ f → text_in_field x f ≡ text_in_field y f
+      same_text : owns owners r field ≡ true → (f : Option ℕ) → place x ≡ f → text_in_field x f ≡ text_in_field y f
       unfolding text_in_field field_text
-      same_text o Nothing p = refl
-      same_text o (At k) p =
+      same_text o None p = refl
+      same_text o (Some k) p =
           slice-same k (field_end (marks x.attrs) k) x.chars y.chars (omega (arith, inside, n, a.chars_long)) (omega (arith, inside, n, b.chars_long)) cell
           ∙ ap (λ (ms : List ℕ). slice k (field_end ms k) y.chars) same-marks
         where

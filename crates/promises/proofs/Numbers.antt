@@ -8,9 +8,7 @@ use native.Mathlib.Omega.{arith}
 use lib.ListN.{length, take, get_or}
 use lib.Dec.{eqb, leb, ltb}
 use borrow.Author.Tests.{eqb-true, eqb-false, ne_eqb, leb-true, leb-false, le-leb, ltb-true, eq-eqb, lt-ltb, not-true}
-use Rattle.cells.specs.declared.Found.{Found}
-use Rattle.cells.specs.declared.Found.TheVariants.{At, Nothing}
-use Rattle.cells.specs.Search.{is_nothing}
+use Rattle.std.specs.Prelude.{Option, Some, None, is_none}
 use Rattle.cells.specs.Memory.{written}
 use Rattle.cells.proofs.Search.{not-both}
 use Rattle.cells.proofs.Splice.{length-written}
@@ -149,16 +147,16 @@ unfolding report_refusal
 report-chosen rows t = subst (Chosen (report_table rows t)) (sym (report-number rows t)) (tested-chosen (good-or rows t untested))
 
 -- ---- a search that found nothing
-nothing-in : (f : Found) → is_nothing f ≡ true → f ≡ Nothing
-nothing-in (At k) e = absurd (not-both e refl)
-nothing-in Nothing e = refl
+nothing-in : (f : Option ℕ) → is_none f ≡ true → f ≡ None
+nothing-in (Some k) e = absurd (not-both e refl)
+nothing-in None e = refl
 
 -- ---- keys: 5 and 6 by the target, then 7
 module _ (w : World) (reply : List ℕ) (code : ℕ) where
   abbrev ms : List ℕ
   ms = marks w.attrs
 
-  abbrev found : Found
+  abbrev found : Option ℕ
   found = target ms (cell_of w.state.cursor)
 
   abbrev aims : Bool
@@ -170,17 +168,17 @@ module _ (w : World) (reply : List ℕ) (code : ℕ) where
   in-aims : Text code → w.state.format ≡ true → aims ≡ true
   in-aims t on = (and-eq-true_iff (within 32 126 code) w.state.format).1 (in-text code t, on)
 
-  disallowed : (f : Found) → disallows ms code f ≡ true → (cell : ℕ) × (f ≡ At cell) × (allowed (kind_at ms cell) code ≡ false)
+  disallowed : (f : Option ℕ) → disallows ms code f ≡ true → (cell : ℕ) × (f ≡ Some cell) × (allowed (kind_at ms cell) code ≡ false)
   unfolding disallows
-  disallowed (At k) e = (k, refl, not-true _ e)
-  disallowed Nothing e = absurd (not-both e refl)
+  disallowed (Some k) e = (k, refl, not-true _ e)
+  disallowed None e = absurd (not-both e refl)
 
-  to-disallowed : (cell : ℕ) → found ≡ At cell → allowed (kind_at ms cell) code ≡ false → disallows ms code found ≡ true
+  to-disallowed : (cell : ℕ) → found ≡ Some cell → allowed (kind_at ms cell) code ≡ false → disallows ms code found ≡ true
   unfolding disallows
   to-disallowed cell e a = ap (disallows ms code) e ∙ ap not a
 
-  no_target : aims && is_nothing found ≡ true → NoTarget w code
-  no_target e = let a = (and-eq-true_iff aims (is_nothing found)).0 e in let b = aims-in a.0 in (b.0, b.1, nothing-in found a.1)
+  no_target : aims && is_none found ≡ true → NoTarget w code
+  no_target e = let a = (and-eq-true_iff aims (is_none found)).0 e in let b = aims-in a.0 in (b.0, b.1, nothing-in found a.1)
 
   not-allowed : aims && disallows ms code found ≡ true → NotAllowed w code
   not-allowed e = let a = (and-eq-true_iff aims (disallows ms code found)).0 e in let b = aims-in a.0 in (b.0, b.1, disallowed found a.1)
@@ -189,10 +187,10 @@ module _ (w : World) (reply : List ℕ) (code : ℕ) where
   no_room e = let a = (and-eq-true_iff (eqb code enter) (ltb (length reply) 1)).0 e in (eqb-true code enter a.0, ltb-true (length reply) 1 a.1)
 
   by_code :
-      Tested ((5 when (aims && is_nothing found)) ∷ (6 when (aims && disallows ms code found)) ∷ (7 when (eqb code enter && ltb (length reply) 1)) ∷ [])
+      Tested ((5 when (aims && is_none found)) ∷ (6 when (aims && disallows ms code found)) ∷ (7 when (eqb code enter && ltb (length reply) 1)) ∷ [])
       ((5 for NoTarget w code) ∷ (6 for NotAllowed w code) ∷ (7 for NoRoom reply code) ∷ [])
   by_code =
-      tested no_target (λ c. (and-eq-true_iff aims (is_nothing found)).1 (in-aims c.0 c.1, ap is_nothing c.2))
+      tested no_target (λ c. (and-eq-true_iff aims (is_none found)).1 (in-aims c.0 c.1, ap is_none c.2))
       (tested not-allowed (λ c. (and-eq-true_iff aims (disallows ms code found)).1 (in-aims c.0 c.1, to-disallowed c.2.0 c.2.1 c.2.2))
       (tested no_room (λ c. (and-eq-true_iff (eqb code enter) (ltb (length reply) 1)).1 (eq-eqb code enter c.0, lt-ltb (length reply) 1 c.1)) untested))
 
@@ -234,32 +232,32 @@ module _ (w : World) (field : ℕ) (text : List ℕ) where
   abbrev here-ms : List ℕ
   here-ms = marks w.attrs
 
-  abbrev place : Found
+  abbrev place : Option ℕ
   place = nth_field here-ms field
 
-  too_long : (f : Found) → is_too_long here-ms text f ≡ true → (start : ℕ) × (f ≡ At start) × (field_end here-ms start - start < length text)
+  too_long : (f : Option ℕ) → is_too_long here-ms text f ≡ true → (start : ℕ) × (f ≡ Some start) × (field_end here-ms start - start < length text)
   unfolding is_too_long
-  too_long (At k) e = (k, refl, ltb-true _ _ e)
-  too_long Nothing e = absurd (not-both e refl)
+  too_long (Some k) e = (k, refl, ltb-true _ _ e)
+  too_long None e = absurd (not-both e refl)
 
-  to-long : (start : ℕ) → place ≡ At start → field_end here-ms start - start < length text → is_too_long here-ms text place ≡ true
+  to-long : (start : ℕ) → place ≡ Some start → field_end here-ms start - start < length text → is_too_long here-ms text place ≡ true
   unfolding is_too_long
   to-long k e l = ap (is_too_long here-ms text) e ∙ lt-ltb (field_end here-ms k - k) (length text) l
 
-  misfit : (f : Found) → misfits here-ms text f ≡ true → (start : ℕ) × (f ≡ At start) × Bad (kind_at here-ms start) text
+  misfit : (f : Option ℕ) → misfits here-ms text f ≡ true → (start : ℕ) × (f ≡ Some start) × Bad (kind_at here-ms start) text
   unfolding misfits
-  misfit (At k) e = (k, refl, bad-byte (kind_at here-ms k) text (not-true _ e))
-  misfit Nothing e = absurd (not-both e refl)
+  misfit (Some k) e = (k, refl, bad-byte (kind_at here-ms k) text (not-true _ e))
+  misfit None e = absurd (not-both e refl)
 
-  to-misfit : (start : ℕ) → place ≡ At start → Bad (kind_at here-ms start) text → misfits here-ms text place ≡ true
+  to-misfit : (start : ℕ) → place ≡ Some start → Bad (kind_at here-ms start) text → misfits here-ms text place ≡ true
   unfolding misfits
   to-misfit k e b = ap (misfits here-ms text) e ∙ unless-true (λ a. no-bad-byte (kind_at here-ms k) text a b.0 b.1 b.2)
 
   by_field :
-      Tested ((9 when is_nothing place) ∷ (10 when is_too_long here-ms text place) ∷ (6 when misfits here-ms text place) ∷ [])
+      Tested ((9 when is_none place) ∷ (10 when is_too_long here-ms text place) ∷ (6 when misfits here-ms text place) ∷ [])
       ((9 for NoField w field) ∷ (10 for TooLong w field text) ∷ (6 for BadByte w field text) ∷ [])
   by_field =
-      tested (nothing-in place) (λ c. ap is_nothing c)
+      tested (nothing-in place) (λ c. ap is_none c)
       (tested (too_long place) (λ c. to-long c.0 c.1 c.2)
       (tested (misfit place) (λ c. to-misfit c.0 c.1 c.2) untested))
 
@@ -319,20 +317,20 @@ post-as-chosen rows w owners reader field text =
     (table-or rows w owners
     (bar w
     (tested (λ e. not-true w.state.format e) (λ c. ap not c)
-    (tested (nothing-in (place w field text)) (λ c. ap is_nothing c)
+    (tested (nothing-in (place w field text)) (λ c. ap is_none c)
     (owner-or owners reader field
     (tested (too_long w field text (place w field text)) (λ c. to-long w field text c.0 c.1 c.2)
     (tested (misfit w field text (place w field text)) (λ c. to-misfit w field text c.0 c.1 c.2) untested)))))))
 
 module _ (w : World) (field : ℕ) (out : List ℕ) where
-  short-of : (f : Found) → ltb (length out) (length (text_in_field w f)) ≡ true → (start : ℕ) × (f ≡ At start) × (length out < length (field_text w.chars (marks w.attrs) start))
+  short-of : (f : Option ℕ) → ltb (length out) (length (text_in_field w f)) ≡ true → (start : ℕ) × (f ≡ Some start) × (length out < length (field_text w.chars (marks w.attrs) start))
   unfolding text_in_field
-  short-of (At k) e = (k, refl, ltb-true _ _ e)
-  short-of Nothing e = absurd (omega (arith, ltb-true (length out) 0 e))
+  short-of (Some k) e = (k, refl, ltb-true _ _ e)
+  short-of None e = absurd (omega (arith, ltb-true (length out) 0 e))
 
   to-short : ShortOfField w field out → ltb (length out) (length (text_in_field w (nth_field (marks w.attrs) field))) ≡ true
   unfolding text_in_field
-  to-short (k, e, l) = ap (λ (f : Found). ltb (length out) (length (text_in_field w f))) e ∙ lt-ltb (length out) (length (field_text w.chars (marks w.attrs) k)) l
+  to-short (k, e, l) = ap (λ (f : Option ℕ). ltb (length out) (length (text_in_field w f))) e ∙ lt-ltb (length out) (length (field_text w.chars (marks w.attrs) k)) l
 
 pub read-back-chosen : (rows : ℕ) (w : World) (owners : List ℕ) (reader field : ℕ) (out : List ℕ)
     → Chosen (read_back_table rows w owners reader field out) (read_back_of rows w owners reader field out).number
@@ -342,7 +340,7 @@ read-back-chosen rows w owners reader field out =
     (tested-chosen
     (table-or rows w owners
     (tested (λ e. not-true w.state.format e) (λ c. ap not c)
-    (tested (nothing-in (nth_field (marks w.attrs) field)) (λ c. ap is_nothing c)
+    (tested (nothing-in (nth_field (marks w.attrs) field)) (λ c. ap is_none c)
     (owner-or owners reader field
     (tested (short-of w field out (nth_field (marks w.attrs) field)) (to-short w field out) untested))))))
 

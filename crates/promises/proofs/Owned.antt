@@ -4,7 +4,7 @@ use mathlib.Core.Bool.{Bool, true, false, cond, ◌||◌, not}
 use mathlib.Core.List.{List, [], ◌∷◌}
 use Prim.Native.Nat.{ℕ, ◌*◌, ◌<◌}
 use lib.Dec.{eqb}
-use Rattle.cells.specs.Search.{is_nothing}
+use Rattle.std.specs.Prelude.{is_none}
 use Rattle.fields.specs.Fields.{nth_field}
 use Rattle.terminal.specs.State.{World, barred}
 use Rattle.terminal.specs.Refusals.{◌when◌, first_refusal}
@@ -52,7 +52,7 @@ module _ (rows : ℕ) (owners : List ℕ) (field : ℕ) (text : List ℕ) where
         ((1 when not (is_table owners))
         ∷ (4 when (w.lock || not (eqb w.pending 0)))
         ∷ (8 when not w.format)
-        ∷ (9 when is_nothing found)
+        ∷ (9 when is_none found)
         ∷ (13 when not (owns owners r field))
         ∷ (10 when is_too_long w.marks text found)
         ∷ (6 when misfits w.marks text found)

@@ -7,8 +7,7 @@ use native.Mathlib.Omega.{arith}
 use lib.ListN.{length, set}
 use lib.Dec.{eqb}
 use borrow.Author.Tests.{le-leb, eqb-true, eqb-false}
-use Rattle.cells.specs.declared.Found.{Found}
-use Rattle.cells.specs.declared.Found.TheVariants.{At, Nothing}
+use Rattle.std.specs.Prelude.{Option, Some, None}
 use Rattle.cells.specs.Range.{within}
 use Rattle.cells.proofs.Choices.{choose-as}
 use Rattle.fields.specs.Fields.{marks, nth_field}
@@ -163,10 +162,10 @@ module _ (rows : ℕ) (w : World) (reading : ℕ) (number : Number) (s : Sound r
   unfolding post_refusal first_refusal barred
   post-refusal field text = rw ((in-sound s).1, (in-sound t).1)
 
-  post-at : (text : List ℕ) (f : Found) → posted_at other text f ≡ misread (posted_at w text f) reading number
+  post-at : (text : List ℕ) (f : Option ℕ) → posted_at other text f ≡ misread (posted_at w text f) reading number
   unfolding posted_at
-  post-at text (At k) = refl
-  post-at text Nothing = refl
+  post-at text (Some k) = refl
+  post-at text None = refl
 
   pub post-unread : (field : ℕ) (text : List ℕ) → posted_to rows other field text ≡ reposted (posted_to rows w field text)
   unfolding posted_to differing_rows

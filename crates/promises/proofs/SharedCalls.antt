@@ -5,8 +5,7 @@ use mathlib.Core.Path.{◌≡◌, refl, sym, ap, ap₂, ◌∙◌, subst}
 use mathlib.Core.Logic.{◌⊎◌, ◌↔◌, inl, inr}
 use mathlib.Core.List.{List, [], ◌∷◌, ◌++◌}
 use lib.Dec.{eqb}
-use Rattle.cells.specs.declared.Found.{Found}
-use Rattle.cells.specs.declared.Found.TheVariants.{At, Nothing}
+use Rattle.std.specs.Prelude.{Option, Some, None}
 use Rattle.cells.proofs.Choices.{choose-as}
 use Rattle.cells.proofs.Patch.{eq-or}
 use Rattle.fields.specs.Fields.{marks, nth_field}
@@ -108,10 +107,10 @@ module _ (rows : ℕ) (w : World) (reading : ℕ) (number : Number) (s : Sound r
       (choose-as (λ (v : World). misread v reading number) (eqb (post_as_refusal rows w owners reader field text) 0) {y = w} (ap (λ (p : Posted). p.world) (post-unread rows w reading number s t field text)) refl))
       ∙ ap again (sym (as-left rows w owners reader field text))
 
-  text-unread : (f : Found) → text_in_field other f ≡ text_in_field w f
+  text-unread : (f : Option ℕ) → text_in_field other f ≡ text_in_field w f
   unfolding text_in_field
-  text-unread (At k) = refl
-  text-unread Nothing = refl
+  text-unread (Some k) = refl
+  text-unread None = refl
 
   reading-unread : (owners : List ℕ) (reader field : ℕ) (out : List ℕ) → read_back_of rows other owners reader field out ≡ read_back_of rows w owners reader field out
   unfolding read_back_of read_refusal first_refusal

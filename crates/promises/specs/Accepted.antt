@@ -1,7 +1,6 @@
 -- The promise of posts: what an accepted post writes, cell by cell, and that nothing else changes; that a reader's post does the same, in a field of its own; and what a reader reads back.
 -- Refused calls leave all (`Refusals`). This holds of up to 96 rows. Assumes nothing.
-use Rattle.std.specs.Prelude.{ℕ, ◌+◌, ◌-◌, ◌≤◌, ◌<◌, ◌≡◌, true, false, ◌↔◌, List, ◌++◌, length, get_or, drop, replicate}
-use Rattle.cells.specs.declared.Found.TheVariants.{At}
+use Rattle.std.specs.Prelude.{ℕ, ◌+◌, ◌-◌, ◌≤◌, ◌<◌, ◌≡◌, true, false, ◌↔◌, List, ◌++◌, length, get_or, drop, replicate, Some}
 use Rattle.fields.specs.Fields.{marks, field_end, nth_field, holds}
 use Rattle.terminal.specs.State.{World, flagged}
 use Rattle.post.specs.Posts.{posted_to}
@@ -12,7 +11,7 @@ use Rattle.promises.specs.Changes.{cell_at}
 pub record Accepted (w : World) (field : ℕ) (text : List ℕ) (v : World) : Type 0 where
   -- there is such a field, it lies in the memory, and the text is not longer than it
   pub start : ℕ
-  pub starts : nth_field (marks w.attrs) field ≡ At start
+  pub starts : nth_field (marks w.attrs) field ≡ Some start
   pub ends_in : field_end (marks w.attrs) start ≤ length w.chars
   pub fits : start + length text ≤ field_end (marks w.attrs) start
   -- the text stands in the cells from the start on, then blanks to the field's end
@@ -48,7 +47,7 @@ PostAsOwn rows =
 -- what the reading back of unprotected field number `field` leaves: there is such a field, and all its characters stand in the buffer from its first byte on, blanks too
 pub record ReadsBack (w : World) (field : ℕ) (b : Read) : Type 0 where
   pub start : ℕ
-  pub starts : nth_field (marks w.attrs) field ≡ At start
+  pub starts : nth_field (marks w.attrs) field ≡ Some start
   pub whole : b.written ≡ field_end (marks w.attrs) start - start
   pub text_stands : (i : ℕ) → i < b.written → get_or b.out i 0 ≡ get_or w.chars (start + i) 0
 
@@ -63,5 +62,5 @@ PostReadsBack rows =
     (w : World) (owners : List ℕ) (reader field : ℕ) (text out : List ℕ) (start : ℕ)
     → let p = posted_as rows w owners reader field text in
     let size = field_end (marks w.attrs) start - start in
-    p.number ≡ 0 → nth_field (marks w.attrs) field ≡ At start → size ≤ length out
+    p.number ≡ 0 → nth_field (marks w.attrs) field ≡ Some start → size ≤ length out
     → read_back_of rows p.world owners reader field out ≡ record { number = 0; written = size; out = text ++ (replicate (size - length text) 32 ++ drop size out) }

@@ -7,7 +7,7 @@ use native.Mathlib.Omega.{arith}
 use lib.ListN.{get_or}
 use lib.Dec.{eqb, ltb}
 use borrow.Author.Tests.{eqb-true, ne_eqb, not-false}
-use Rattle.cells.specs.Search.{is_nothing}
+use Rattle.std.specs.Prelude.{is_none}
 use Rattle.cells.proofs.Choices.{choose-by}
 use Rattle.fields.specs.Fields.{marks, nth_field}
 use Rattle.terminal.specs.State.{World, is_good, is_sized, barred, Sound}
@@ -48,7 +48,7 @@ module _ (rows : ℕ) (w : World) (owners : List ℕ) (reader field : ℕ) (text
       let g = passed (not (is_good rows w.state)) (λ n. omega arith) s.1 in
       let b = passed (barred w.state) (λ n. omega arith) g.1 in
       let f = passed (not w.state.format) (λ n. omega arith) b.1 in
-      let n = passed (is_nothing (nth_field (marks w.attrs) field)) (λ n. omega arith) f.1 in
+      let n = passed (is_none (nth_field (marks w.attrs) field)) (λ n. omega arith) f.1 in
       let o = passed (not (owns owners reader field)) (λ n. omega arith) n.1 in
       let a = (and-eq-true_iff (is_sized rows w.chars w.attrs) (is_table owners)).0 (not-false _ s.0) in
       record { table = a.1; own = not-false _ o.0; unrefused = rw (a.0, g.0, b.0, f.0, n.0) o.1 }

@@ -8,9 +8,7 @@ use lib.ListN.{length, get_or, take, drop, replicate, length-append, length-repl
 use lib.Seq.{length-slice, length-take-le, get_or-take, get_or-drop, drop_at}
 use lib.Dec.{eqb, ltb}
 use borrow.Author.Tests.{eqb-true, ltb-false, lt-ltb, le-ltb, not-false}
-use Rattle.cells.specs.declared.Found.{Found}
-use Rattle.cells.specs.declared.Found.TheVariants.{At, Nothing}
-use Rattle.cells.specs.Search.{is_nothing}
+use Rattle.std.specs.Prelude.{Option, Some, None, is_none}
 use Rattle.cells.specs.Memory.{written, posted}
 use Rattle.cells.proofs.Choices.{choose-by}
 use Rattle.cells.proofs.Splice.{length-written, take-written, drop-written}
@@ -34,7 +32,7 @@ unfolding is_table
 table-long owners t = eqb-true (length owners) 256 t
 
 -- the row of a field that is found lies in the memory
-pub row_inside : {rows : ℕ} {w : World} → Sound rows w → (field k : ℕ) → nth_field (marks w.attrs) field ≡ At k
+pub row_inside : {rows : ℕ} {w : World} → Sound rows w → (field k : ℕ) → nth_field (marks w.attrs) field ≡ Some k
     → (k / 80 * 80 + 80 ≤ length w.attrs) × (length w.chars ≡ length w.attrs)
 row_inside s field k e = (omega (arith, (field-inside s field k e).0, s.attrs_long), s.chars_long ∙ sym s.attrs_long)
 
@@ -75,20 +73,20 @@ posted-text chars ms k text h p l =
 
 -- ---- a text read back by one who owns its field, and by one who does not
 module _ (text : List ℕ) (k : ℕ) (out : List ℕ) where
-  pub read-unowned : left 13 0 out ≡ read_in text false (At k) out
+  pub read-unowned : left 13 0 out ≡ read_in text false (Some k) out
   unfolding read_in late_refusal first_refusal
   read-unowned = refl
 
-  pub read_short : length out < length text → left 7 0 out ≡ read_in text true (At k) out
+  pub read_short : length out < length text → left 7 0 out ≡ read_in text true (Some k) out
   unfolding read_in late_refusal first_refusal
   read_short h = rw (lt-ltb (length out) (length text) h)
 
-  pub read_done : {now : List ℕ} → length text ≤ length out → now ≡ written out 0 text → left 0 (length text) now ≡ read_in text true (At k) out
+  pub read_done : {now : List ℕ} → length text ≤ length out → now ≡ written out 0 text → left 0 (length text) now ≡ read_in text true (Some k) out
   unfolding read_in late_refusal first_refusal
   read_done h e = rw (e, le-ltb (length out) (length text) h)
 
 -- no field
-pub read-nothing : (text : List ℕ) (owned : Bool) (out : List ℕ) → left 9 0 out ≡ read_in text owned Nothing out
+pub read-nothing : (text : List ℕ) (owned : Bool) (out : List ℕ) → left 9 0 out ≡ read_in text owned None out
 unfolding read_in late_refusal first_refusal
 read-nothing text owned out = refl
 
@@ -123,7 +121,7 @@ module _ (rows : ℕ) (w : World) (owners : List ℕ) where
         go true true false rest d h = refl
         go true true true rest d h = absurd (h refl)
 
-    pub read_found : ReadOpen rows w owners → {found : Found} {owned : Bool} {r : Read} → nth_field (marks w.attrs) field ≡ found → owned ≡ owns owners reader field
+    pub read_found : ReadOpen rows w owners → {found : Option ℕ} {owned : Bool} {r : Read} → nth_field (marks w.attrs) field ≡ found → owned ≡ owns owners reader field
         → r ≡ read_in (text_in_field w found) owned found out → r ≡ read_back_of rows w owners reader field out
     unfolding read_back_of read_refusal first_refusal read_in late_refusal
     read_found o p q r = r ∙ rw (o.sized, o.table, o.good, o.formatted, p, q)
@@ -148,7 +146,7 @@ module _ (rows : ℕ) (w : World) (owners : List ℕ) where
     -- ---- a reading back that is not refused: all its tests passed
     record ReadPassed : Type 0 where
       opened : ReadOpen rows w owners
-      some : is_nothing (nth_field (marks w.attrs) field) ≡ false
+      some : is_none (nth_field (marks w.attrs) field) ≡ false
       own : owns owners reader field ≡ true
       room : length (text_in_field w (nth_field (marks w.attrs) field)) ≤ length out
 
@@ -159,7 +157,7 @@ module _ (rows : ℕ) (w : World) (owners : List ℕ) where
         let s = passed (not (is_sized rows w.chars w.attrs && is_table owners)) (λ n. omega arith) e in
         let g = passed (not (is_good rows w.state)) (λ n. omega arith) s.1 in
         let f = passed (not w.state.format) (λ n. omega arith) g.1 in
-        let n = passed (is_nothing found) (λ n. omega arith) f.1 in
+        let n = passed (is_none found) (λ n. omega arith) f.1 in
         let o = passed (not (owns owners reader field)) (λ n. omega arith) n.1 in
         let l = passed (ltb (length out) (length (text_in_field w found))) (λ n. omega arith) o.1 in
         let a = (and-eq-true_iff (is_sized rows w.chars w.attrs) (is_table owners)).0 (not-false _ s.0) in
@@ -191,7 +189,7 @@ module _ (rows : ℕ) (w : World) (owners : List ℕ) where
       pub table : is_table owners ≡ true
       pub own : owns owners reader field ≡ true
       pub start : ℕ
-      pub found : nth_field (marks w.attrs) field ≡ At start
+      pub found : nth_field (marks w.attrs) field ≡ Some start
       pub room : length (field_text w.chars (marks w.attrs) start) ≤ length out
       pub leaves : read_back_of rows w owners reader field out ≡ read_with 0 (field_text w.chars (marks w.attrs) start) out
 
@@ -205,15 +203,15 @@ module _ (rows : ℕ) (w : World) (owners : List ℕ) where
         p : ReadPassed
         p = read-passed e
 
-        go : (f : Found) → nth_field (marks w.attrs) field ≡ f → ReadReady
-        go (At k) q =
+        go : (f : Option ℕ) → nth_field (marks w.attrs) field ≡ f → ReadReady
+        go (Some k) q =
             record {
               sound = sound-in {w = w} few p.opened.sized p.opened.good;
               table = p.opened.table;
               own = p.own;
               start = k;
               found = q;
-              room = subst (λ (f : Found). length (text_in_field w f) ≤ length out) q p.room;
+              room = subst (λ (f : Option ℕ). length (text_in_field w f) ≤ length out) q p.room;
               leaves = rw (e, q);
             }
-        go Nothing q = absurd (false≢true (sym p.some ∙ ap is_nothing q))
+        go None q = absurd (false≢true (sym p.some ∙ ap is_none q))

@@ -1,8 +1,5 @@
 -- Two readers on one form (document 02, [5]): which fields a reader owns, its posts, and what it reads back. Assumes nothing.
-use Rattle.std.specs.Prelude.{ℕ, Bool, cond, ◌&&◌, ◌||◌, not, List, [], ◌∷◌, length, take, get_or, ltb, eqb}
-use Rattle.cells.specs.declared.Found.{Found}
-use Rattle.cells.specs.declared.Found.TheVariants.{At, Nothing}
-use Rattle.cells.specs.Search.{is_nothing}
+use Rattle.std.specs.Prelude.{ℕ, Bool, cond, ◌&&◌, ◌||◌, not, List, [], ◌∷◌, length, take, get_or, ltb, eqb, Option, Some, None, is_none}
 use Rattle.cells.specs.Memory.{written}
 use Rattle.fields.specs.Fields.{marks, nth_field}
 use Rattle.replies.specs.Replies.{field_text}
@@ -33,9 +30,9 @@ posted_as rows w owners reader field text = posted_with rows (post_as_refusal ro
 -- ---- reading back
 
 -- the field that starts there, whole, blanks too
-unfoldable pub text_in_field : World → Found → List ℕ
-text_in_field w (At start) = field_text w.chars (marks w.attrs) start
-text_in_field w Nothing = []
+unfoldable pub text_in_field : World → Option ℕ → List ℕ
+text_in_field w (Some start) = field_text w.chars (marks w.attrs) start
+text_in_field w None = []
 
 -- it tests 1, 2, 8, 9, 13, 7: host lock and a pending transfer do not bar it
 unfoldable pub read_refusal : ℕ → World → List ℕ → ℕ → ℕ → ℕ → ℕ
@@ -45,7 +42,7 @@ read_refusal rows w owners reader field room =
     ((1 when not (is_sized rows w.chars w.attrs && is_table owners))
     ∷ (2 when not (is_good rows w.state))
     ∷ (8 when not w.state.format)
-    ∷ (9 when is_nothing found)
+    ∷ (9 when is_none found)
     ∷ (13 when not (owns owners reader field))
     ∷ (7 when ltb room (length (text_in_field w found)))
     ∷ [])

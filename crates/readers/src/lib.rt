@@ -2,7 +2,6 @@
 #![tactic(auto)]
 
 ghost use Rattle.std.specs.Prelude.{◌≡◌, ◌||◌, ◌+◌, ◌*◌, ◌/◌, ◌≤◌, length, eqb};
-ghost use Rattle.cells.specs.declared.Found.TheVariants.{At};
 ghost use Rattle.fields.specs.Fields.{marks};
 ghost use Rattle.replies.specs.Replies.{field_text};
 ghost use Rattle.terminal.specs.State.{world};
@@ -10,7 +9,6 @@ ghost use Rattle.post.specs.Posts.{post_left};
 ghost use Rattle.readers.specs.Owners.{is_table, owns, posted_as, read_left, read_back_of};
 ghost use Rattle.readers.specs.Field.{early_refusal, read_in};
 
-use cells::Found;
 use post::PostAnswer;
 use terminal::Terminal;
 
@@ -156,7 +154,7 @@ fn field_part<'a>(chars: &'a [u8], attrs: &[u8], k: usize) -> &'a [u8]
 // The field that starts at cell `k`, from the first byte of `out` on, for one who owns it or does not.
 fn read_field(chars: &[u8], attrs: &[u8], owned: bool, k: usize, out: &mut [u8]) -> ReadAnswer
     requires { (k / 80 * 80 + 80 ≤ length attrs.now) × (length chars.now ≡ length attrs.now) }
-    ensures { read_left result out.new ≡ read_in (field_text chars.now (marks attrs.now) k) owned (At k) out.old }
+    ensures { read_left result out.new ≡ read_in (field_text chars.now (marks attrs.now) k) owned (Some k) out.old }
 {
     if !owned {
         return read_none(13);
@@ -193,8 +191,8 @@ pub fn read_back_on(
     let owned = owns_field(owners, reader, field);
     let start = fields::nth_field(attrs, field);
     match start {
-        Found::At(k) => read_field(chars, attrs, owned, k, out),
-        Found::Nothing => read_none(9),
+        Some(k) => read_field(chars, attrs, owned, k, out),
+        None => read_none(9),
     }
 }
 

@@ -1,8 +1,6 @@
 -- The replies (document 01, 'Replies'), byte by byte. Assumes nothing.
-use Rattle.std.specs.Prelude.{ℕ, suc, ◌+◌, ◌*◌, ◌/◌, ◌%◌, Bool, true, false, cond, List, [], ◌∷◌, ◌++◌, map}
+use Rattle.std.specs.Prelude.{ℕ, suc, ◌+◌, ◌*◌, ◌/◌, ◌%◌, Bool, true, false, cond, List, [], ◌∷◌, ◌++◌, map, Option, Some, None}
 use Rattle.std.proofs.Math.Seq.{slice}
-use Rattle.cells.specs.declared.Found.{Found}
-use Rattle.cells.specs.declared.Found.TheVariants.{At, Nothing}
 use Rattle.cells.specs.Search.{last_in, all_of}
 use Rattle.fields.specs.Fields.{marks, is_in, field_end, non_blank}
 
@@ -36,9 +34,9 @@ unfoldable pub fields_reply : List ℕ → List ℕ → List ℕ
 fields_reply chars attrs = joined (map (field_text chars (marks attrs)) (all_of (is_in 4) 0 (marks attrs))) ++ (30 ∷ [])
 
 -- ---- block, format off: the cursor row through its last non-blank, CR
-abbrev pub through : ℕ → Found → ℕ
-through from (At k) = suc k
-through from Nothing = from
+abbrev pub through : ℕ → Option ℕ → ℕ
+through from (Some k) = suc k
+through from None = from
 
 unfoldable pub row_reply : List ℕ → ℕ → List ℕ
 row_reply chars row = slice (row * 80) (through (row * 80) (last_in non_blank chars (row * 80) (row * 80 + 80))) chars ++ (13 ∷ [])

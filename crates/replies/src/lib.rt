@@ -7,8 +7,6 @@ ghost use Rattle.cells.specs.Memory.{written};
 ghost use Rattle.fields.specs.Fields.{mark_of, marks, is_in, field_end, non_blank};
 ghost use Rattle.replies.specs.Replies.{cursor_reply, bit, status_reply, field_text, fields_reply, through, row_reply, block_reply};
 
-use cells::Found;
-
 fn digit(n: usize) -> u8
     ensures { result ≡ 48 + n % 10 }
 {
@@ -138,8 +136,8 @@ fn row_through(chars: &[u8], row: usize) -> usize
     let from = row * 80;
     let last = fields::last_text(chars, from, from + 80);
     match last {
-        Found::At(k) => k + 1,
-        Found::Nothing => from,
+        Some(k) => k + 1,
+        None => from,
     }
 }
 

@@ -5,9 +5,9 @@ ghost use Rattle.std.specs.Prelude.{◌≡◌, ◌≤◌};
 ghost use Rattle.report.specs.Reports.{reported};
 
 use changes::Changes;
-use terminal::Terminal;
+use terminal::{Refusal, Size, Terminal};
 
-// The number, how many rows are set, the first of them or the number of rows where none is, and the state afterwards, with none set.
+// The number of document 01, as C reads it, how many rows are set, the first of them or the number of rows where none is, and the state afterwards, with none set.
 #[derive(Clone, Copy)]
 pub struct ReportAnswer {
     pub number: u8,
@@ -23,7 +23,7 @@ pub fn report_on(t: Terminal, rows: usize) -> ReportAnswer
 {
     if !t.is_good(rows) {
         return ReportAnswer {
-            number: 2,
+            number: Refusal::State.number(),
             count: 0,
             first: rows as u32,
             state: t,
@@ -41,16 +41,9 @@ pub fn report_on(t: Terminal, rows: usize) -> ReportAnswer
     }
 }
 
-// A report of the rows that changed, of a memory of 96 rows; then none is set. Takes any state; one that is not good answers 2, tells of no row and stays.
-pub fn report(t: Terminal) -> ReportAnswer
-    ensures { result ≡ reported 96 t }
+// A report of the rows that changed, of a memory of a size; then none is set. Takes any state; one that is not good answers 2, tells of no row and stays.
+pub fn report<S: Size>(t: Terminal) -> ReportAnswer
+    ensures { result ≡ reported S.size t }
 {
-    report_on(t, 96)
-}
-
-// `report` for a memory of 48 rows.
-pub fn report_48(t: Terminal) -> ReportAnswer
-    ensures { result ≡ reported 48 t }
-{
-    report_on(t, 48)
+    report_on(t, S::rows())
 }

@@ -9,8 +9,7 @@ use lib.ListN.{length, get_or}
 use lib.Seq.{get_or-set_other}
 use lib.Dec.{ltb}
 use borrow.Author.Tests.{ltb-true}
-use Rattle.cells.specs.declared.Found.{Found}
-use Rattle.cells.specs.declared.Found.TheVariants.{At, Nothing}
+use Rattle.std.specs.Prelude.{Option, Some, None}
 use Rattle.cells.proofs.Search.{not-both}
 use Rattle.cells.proofs.Patch.{lt-or, length-changed_where, changed_where-either}
 use Rattle.cells.proofs.Values.{length-shifted_left}
@@ -44,7 +43,7 @@ pub record CursorRest (p : Page) (j : ℕ) : Type 0 where
 -- the rest of the field that takes text
 pub record TargetRest (p : Page) (j : ℕ) : Type 0 where
   pub start : ℕ
-  pub found : target (marks_of p) (cell p) ≡ At start
+  pub found : target (marks_of p) (cell p) ≡ Some start
   pub rest : Rest (marks_of p) start j
 
 -- the unprotected cells from the cursor on
@@ -146,13 +145,13 @@ module _ {rows : ℕ} {p : Page} (w : Whole rows p) where
       })
       refl
 
-  typed-in-only : (insert : Bool) (v : ℕ) (f : Found) → target (marks_of p) (cell p) ≡ f → Only (TargetRest p) p (typed_in insert v f p)
+  typed-in-only : (insert : Bool) (v : ℕ) (f : Option ℕ) → target (marks_of p) (cell p) ≡ f → Only (TargetRest p) p (typed_in insert v f p)
   unfolding typed_in
-  typed-in-only insert v (At k) e =
+  typed-in-only insert v (Some k) e =
       choose-by (Only (TargetRest p) p) (allowed (kind_at (marks_of p) k) v)
       (λ _. only-more (λ j r. record { start = k; found = e; rest = r }) (typed-at-only insert v k (target-is-unprotected (marks_of p) (cell p) k e)))
       (λ _. only_none refl refl)
-  typed-in-only insert v Nothing e = only_none refl refl
+  typed-in-only insert v None e = only_none refl refl
 
   pub typed-only : (insert : Bool) (v : ℕ) → Only (TargetRest p) p (typed rows true insert v p)
   unfolding typed

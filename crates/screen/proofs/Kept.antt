@@ -7,9 +7,8 @@ use native.Mathlib.Omega.{arith}
 use lib.ListN.{length, get_or, length-set}
 use lib.Dec.{ltb}
 use borrow.Author.Tests.{ltb-true}
-use Rattle.cells.specs.declared.Found.{Found}
-use Rattle.cells.specs.declared.Found.TheVariants.{At, Nothing}
-use Rattle.cells.specs.Search.{at_or, last_in}
+use Rattle.std.specs.Prelude.{Option, Some, None, unwrap_or}
+use Rattle.cells.specs.Search.{last_in}
 use Rattle.cells.proofs.Choices.{choose-by}
 use Rattle.cells.proofs.Patch.{length-changed_where}
 use Rattle.cells.proofs.Splice.{length-moved_up, length-moved_down}
@@ -47,14 +46,14 @@ length-enhanced true e attrs k = refl
 length-enhanced false e attrs k = length-set attrs k (e * 16 + mark_of (get_or attrs k 0))
 
 -- ---- moves over a memory of `rows` rows: a cell that a search finds is one of its cells
-found-or : (n d : ℕ) (f : Found) → ((k : ℕ) → f ≡ At k → k < n) → d < n → at_or d f < n
-found-or n d (At k) h l = h k refl
-found-or n d Nothing h l = l
+found-or : (n d : ℕ) (f : Option ℕ) → ((k : ℕ) → f ≡ Some k → k < n) → d < n → unwrap_or f d < n
+found-or n d (Some k) h l = h k refl
+found-or n d None h l = l
 
-found_in : {rows : ℕ} {c : Cursor} → InPlace rows c → (f : Found) → ((k : ℕ) → f ≡ At k → k < rows * 80) → InPlace rows (gone_found c f)
+found_in : {rows : ℕ} {c : Cursor} → InPlace rows c → (f : Option ℕ) → ((k : ℕ) → f ≡ Some k → k < rows * 80) → InPlace rows (gone_found c f)
 unfolding gone_found
-found_in g (At k) h = cell_in g (h k refl)
-found_in g Nothing h = g
+found_in g (Some k) h = cell_in g (h k refl)
+found_in g None h = g
 
 module _ {rows : ℕ} {c : Cursor} (g : InPlace rows c) (ms : List ℕ) (long : length ms ≡ rows * 80) where
   pub homed-in : (format : Bool) (highest : ℕ) → InPlace rows (homed format highest ms)
@@ -73,9 +72,9 @@ module _ {rows : ℕ} {c : Cursor} (g : InPlace rows c) (ms : List ℕ) (long : 
   unfolding back_tabbed_in
   back_tabbed_in-in = found_in g (prev_start ms (cell_of c)) (λ k e. omega (arith, (prev-open ms (cell_of c) k e).inside))
 
-row-under-in : (rows : ℕ) (f : Found) → 0 < rows → row_under rows f < rows
-row-under-in rows (At k) h = omega arith
-row-under-in rows Nothing h = h
+row-under-in : (rows : ℕ) (f : Option ℕ) → 0 < rows → row_under rows f < rows
+row-under-in rows (Some k) h = omega arith
+row-under-in rows None h = h
 
 pub homed_down-in : {rows : ℕ} {c : Cursor} → InPlace rows c → (chars : List ℕ) → InPlace rows (homed_down rows chars c)
 unfolding homed_down row_under_text
@@ -115,11 +114,11 @@ module _ {rows : ℕ} {p : Page} (w : Whole rows p) where
   unfolding typed_at_cell
   typed-at-whole insert v k h = whole_with (cell_in w.place (after-in k h)) (length-put insert p.chars k (field_end (marks_of p) k) v) refl
 
-  typed-in-whole : (insert : Bool) (v : ℕ) (f : Found) → ((k : ℕ) → f ≡ At k → k < rows * 80) → Whole rows (typed_in insert v f p)
+  typed-in-whole : (insert : Bool) (v : ℕ) (f : Option ℕ) → ((k : ℕ) → f ≡ Some k → k < rows * 80) → Whole rows (typed_in insert v f p)
   unfolding typed_in
-  typed-in-whole insert v (At k) h =
+  typed-in-whole insert v (Some k) h =
       choose-by (Whole rows) (allowed (kind_at (marks_of p) k) v) (λ _. typed-at-whole insert v k (h k refl)) (λ _. w)
-  typed-in-whole insert v Nothing h = w
+  typed-in-whole insert v None h = w
 
   cleared-whole : (test : ℕ → Bool) → Whole rows (cleared test p)
   unfolding cleared

@@ -1,5 +1,4 @@
--- The laws of the edits: what a text's target is, that a whole page stays whole, where tab goes, and which cells an edit with format on can change.
+-- The laws of the edits: what a text's target is, that a whole page stays whole, and which cells an edit with format on can change.
 pub mod Target
 pub mod Kept
 pub mod Frame
-mod Tabs

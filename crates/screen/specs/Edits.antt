@@ -1,9 +1,6 @@
 -- What each edit and each move that looks at the memory does to a page (document 01, 'Moves and edits'). `format` says whether format mode is on.
 -- Assumes nothing.
-use Rattle.std.specs.Prelude.{ℕ, ◌+◌, ◌*◌, ◌/◌, Bool, true, false, cond, List, length, set, get_or, ltb}
-use Rattle.cells.specs.declared.Found.{Found}
-use Rattle.cells.specs.declared.Found.TheVariants.{At, Nothing}
-use Rattle.cells.specs.Search.{at_or}
+use Rattle.std.specs.Prelude.{ℕ, ◌+◌, ◌*◌, ◌/◌, Bool, true, false, cond, List, length, set, get_or, ltb, Option, Some, None, unwrap_or}
 use Rattle.cells.specs.Memory.{filled, changed_where, shifted_right, shifted_left, moved_up, moved_down}
 use Rattle.cursor.specs.declared.Cursor.{Cursor}
 use Rattle.cursor.specs.Cursor.{cell_of, gone, at_cell, gone_down, in_column, home_at}
@@ -20,16 +17,16 @@ line_fed rows format p = cond (ltb (p.cursor.row + 1) rows) (with_cursor (gone_d
 
 -- ---- home: top 0, the cursor at the first field whose mark is 1 to highest, or at (0,0) with format off or none
 unfoldable pub homed : Bool → ℕ → List ℕ → Cursor
-homed format highest ms = home_at (cond format (at_or 0 (first_start highest ms)) 0)
+homed format highest ms = home_at (cond format (unwrap_or (first_start highest ms) 0) 0)
 
 -- ---- home down: column 0 of the row under the last row that has a non-blank
 unfoldable pub homed_down : ℕ → List ℕ → Cursor → Cursor
 homed_down rows chars c = gone c (row_under_text rows chars) 0
 
 -- ---- tab and back tab with format on. No field: no move
-unfoldable pub gone_found : Cursor → Found → Cursor
-gone_found c (At k) = at_cell c k
-gone_found c Nothing = c
+unfoldable pub gone_found : Cursor → Option ℕ → Cursor
+gone_found c (Some k) = at_cell c k
+gone_found c None = c
 
 unfoldable pub tabbed_in : List ℕ → Cursor → Cursor
 tabbed_in ms c = gone_found c (next_start ms (cell_of c))
@@ -54,16 +51,16 @@ typed_free rows insert v p = onward rows (page p.cursor (put insert p.chars (cel
 
 -- format on: the cursor goes to the next cell of that field, or from its last cell to the next field start, as for tab
 unfoldable pub cell_after : List ℕ → ℕ → ℕ
-cell_after ms k = cond (ltb (k + 1) (field_end ms k)) (k + 1) (at_or k (next_start ms k))
+cell_after ms k = cond (ltb (k + 1) (field_end ms k)) (k + 1) (unwrap_or (next_start ms k) k)
 
 unfoldable pub typed_at_cell : Bool → ℕ → ℕ → Page → Page
 typed_at_cell insert v k p =
     page (at_cell p.cursor (cell_after (marks_of p) k)) (put insert p.chars k (field_end (marks_of p) k) v) p.attrs
 
 -- no target, or a character that the field's kind does not allow: nothing changes
-unfoldable pub typed_in : Bool → ℕ → Found → Page → Page
-typed_in insert v (At k) p = cond (allowed (kind_at (marks_of p) k) v) (typed_at_cell insert v k p) p
-typed_in insert v Nothing p = p
+unfoldable pub typed_in : Bool → ℕ → Option ℕ → Page → Page
+typed_in insert v (Some k) p = cond (allowed (kind_at (marks_of p) k) v) (typed_at_cell insert v k p) p
+typed_in insert v None p = p
 
 unfoldable pub typed : ℕ → Bool → Bool → ℕ → Page → Page
 typed rows true insert v p = typed_in insert v (target (marks_of p) (cell p)) p

@@ -8,9 +8,7 @@ ghost use Rattle.screen.specs.Page.{page};
 ghost use Rattle.screen.specs.Whole.{Whole};
 ghost use Rattle.screen.specs.Edits.{scrolled, line_fed, homed, homed_down, tabbed_in, back_tabbed_in, put, onward, typed_free, cell_after, typed_at_cell, typed_in, typed, display_cleared, line_cleared, char_deleted, row_inserted, row_deleted, mark_set, mark_turned, enhanced};
 
-use cells::Found;
 use cursor::Cursor;
-use fields::Spot;
 
 // All rows move up by one, a blank row enters.
 fn scroll(chars: &mut [u8], attrs: &mut [u8], rows: usize, cursor: Cursor) -> Cursor
@@ -48,8 +46,8 @@ pub fn go_home(attrs: &[u8], format: bool, highest: u8) -> Cursor
     if format {
         let first = fields::first_start(attrs, highest);
         return match first {
-            Found::At(k) => Cursor::home_to(k),
-            Found::Nothing => Cursor::home_to(0),
+            Some(k) => Cursor::home_to(k),
+            None => Cursor::home_to(0),
         };
     }
     Cursor::home_to(0)
@@ -67,10 +65,10 @@ pub fn tab_in(attrs: &[u8], cursor: Cursor) -> Cursor
     requires { (cursor.row < 96) × (cursor.col < 80) × (cell_of cursor < length attrs.now) }
     ensures { result ≡ tabbed_in (marks attrs.now) cursor }
 {
-    let next = fields::next_spot(attrs, cursor.row, cursor.col);
+    let next = fields::next_start(attrs, cursor.cell());
     match next {
-        Spot::In(row, col) => cursor.go(row, col),
-        Spot::Nowhere => cursor,
+        Some(k) => cursor.go_to(k),
+        None => cursor,
     }
 }
 
@@ -79,10 +77,10 @@ pub fn back_tab_in(attrs: &[u8], cursor: Cursor) -> Cursor
     requires { (cursor.row < 96) × (cursor.col < 80) × (cell_of cursor < length attrs.now) }
     ensures { result ≡ back_tabbed_in (marks attrs.now) cursor }
 {
-    let before = fields::prev_spot(attrs, cursor.row, cursor.col);
+    let before = fields::prev_start(attrs, cursor.cell());
     match before {
-        Spot::In(row, col) => cursor.go(row, col),
-        Spot::Nowhere => cursor,
+        Some(k) => cursor.go_to(k),
+        None => cursor,
     }
 }
 
@@ -138,8 +136,8 @@ fn cell_after(attrs: &[u8], rows: usize, k: usize) -> usize
     }
     let next = fields::next_start(attrs, k);
     match next {
-        Found::At(i) => i,
-        Found::Nothing => k,
+        Some(i) => i,
+        None => k,
     }
 }
 
@@ -176,14 +174,14 @@ fn type_in(
 {
     let to = fields::find_target(attrs, cursor.cell());
     match to {
-        Found::At(k) => {
+        Some(k) => {
             let kind = fields::kind_at(attrs, k);
             if fields::allows(kind, v) {
                 return type_at(chars, attrs, rows, cursor, insert, v, k);
             }
             cursor
         }
-        Found::Nothing => cursor,
+        None => cursor,
     }
 }
 

@@ -1,10 +1,15 @@
 -- What each action and each pending transfer sends, by its number. Assumes nothing.
-use Prim.Native.Nat.{ℕ, ◌-◌}
-use mathlib.Core.Path.{◌≡◌}
+use Prim.Native.Nat.{ℕ, ◌-◌, ◌≤◌}
+use mathlib.Core.Path.{◌≡◌, ap, ◌∙◌}
+use mathlib.Core.Logic.{inl, inr}
 use mathlib.Core.List.{[], ◌∷◌}
+use native.Mathlib.Omega.{arith}
+use lib.ListN.{length}
 use borrow.Author.Tests.{ne_eqb}
+use Rattle.cells.proofs.Patch.{eq-or}
 use Rattle.reading.specs.Action as Action
 use Rattle.replies.specs.Replies.{cursor_reply, status_reply, block_reply}
+use Rattle.replies.proofs.Longest.{cursor-length}
 use Rattle.terminal.specs.State.{World}
 use Rattle.streams.specs.Streams.{pending_reply, reply_to}
 
@@ -17,6 +22,13 @@ module _ (w : World) where
   pub pending-window : w.state.pending ≡ 2 → pending_reply w ≡ cursor_reply w.state.cursor.col (w.state.cursor.row - w.state.cursor.top) 89
   unfolding pending_reply
   pending-window e = rw e
+
+  -- either cursor's place, by its length
+  pub pending-place : 1 ≤ w.state.pending → w.state.pending ≤ 2 → length (pending_reply w) ≡ 12
+  pending-place l u = elim (eq-or w.state.pending 1) [
+    | inl e ↦ ap length (pending-absolute e) ∙ cursor-length w.state.cursor.col w.state.cursor.row 82
+    | inr n ↦ ap length (pending-window (omega arith)) ∙ cursor-length w.state.cursor.col (w.state.cursor.row - w.state.cursor.top) 89
+  ]
 
   pub pending-status : w.state.pending ≡ 3 → pending_reply w ≡ status_reply w.state.format w.state.insert w.state.lock
   unfolding pending_reply

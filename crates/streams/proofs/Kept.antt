@@ -1,6 +1,6 @@
 -- Each host byte and each stream keeps a sound world sound, and a refused call leaves all. Assumes nothing.
 use Prim.Native.Nat.{ℕ, ◌+◌, ◌%◌, ◌≤◌, ◌<◌}
-use mathlib.Core.Path.{◌≡◌, refl}
+use mathlib.Core.Path.{◌≡◌, refl, sym, ap, ◌∙◌}
 use mathlib.Core.Bool.{Bool, true, false, cond, not}
 use mathlib.Core.List.{List, [], ◌∷◌}
 use mathlib.Core.Logic.{◌⊎◌, inl, inr, ⊎_elim}
@@ -8,12 +8,16 @@ use native.Mathlib.Omega.{arith}
 use lib.ListN.{length}
 use lib.Dec.{leb, eqb}
 use borrow.Author.Tests.{ne_eqb}
+use Rattle.std.specs.Prelude.{Result, Ok, Err}
 use Rattle.reading.specs.Reading.{action_of}
 use Rattle.reading.proofs.Rules.{action-small, settled-small, next_small, either}
 use Rattle.reading.proofs.Numbers.{sound-kept}
 use Rattle.terminal.specs.declared.Terminal.{Terminal}
 use Rattle.terminal.specs.State.{World, is_good, is_sized, Good, Sound}
-use Rattle.terminal.specs.Refusals.{first_refusal}
+use Rattle.terminal.specs.declared.refusal.Refusal.{Refusal}
+use Rattle.terminal.specs.Numbers.{number_of, answered}
+use Rattle.terminal.specs.Refusals.{◌when◌, first_refusal}
+use Rattle.terminal.proofs.Refusals.{not-done}
 use Rattle.terminal.proofs.Good.{sound-in}
 use Rattle.terminal.proofs.Kept.{sound-stated, acted-sound}
 use Rattle.terminal.proofs.Noted.{noted-sound}
@@ -72,7 +76,7 @@ fed_by P rows w bytes reply read left = go (is_sized rows w.chars w.attrs) (is_g
     go true false on = left 2 (inr refl)
     go false g on = left 1 (inl refl)
 
--- a call by the number of its refusal: one that is not 0 leaves all, and where it is 0 the world is sound
+-- a call by the number of its refusal: one that is not 0 leaves all, and where it is 0 the world is sound; and so by what its tests give
 module _ (rows : ℕ) (w : World) where
   pub refused-by : (bytes reply : List ℕ) {n : ℕ} → n ≡ host_refusal rows w → (n ≡ 0 → ⊥) → hosted n 0 0 w reply ≡ fed rows w bytes reply
   unfolding fed
@@ -86,6 +90,15 @@ module _ (rows : ℕ) (w : World) where
       go true true p q _ = sound-in few p q
       go true false p q e = absurd (omega arith)
       go false g p q e = absurd (omega arith)
+
+  module _ {tested : Result Unit Refusal} (h : answered tested ≡ first_refusal ((1 when not (is_sized rows w.chars w.attrs)) ∷ (2 when not (is_good rows w.state)) ∷ [])) where
+    pub closed-by : (bytes reply : List ℕ) {e : Refusal} {n : ℕ} → tested ≡ Err e → n ≡ number_of e → hosted n 0 0 w reply ≡ fed rows w bytes reply
+    unfolding host_refusal
+    closed-by bytes reply {e} t m = refused-by bytes reply (m ∙ sym (ap answered t) ∙ h) (λ z. not-done e (sym m ∙ z))
+
+    pub opened-by : {u : Unit} → rows ≤ 96 → tested ≡ Ok u → Sound rows w
+    unfolding host_refusal
+    opened-by few t = unrefused few (sym h ∙ ap answered t)
 
 pub fed-good : (rows : ℕ) (w : World) (bytes reply : List ℕ) → rows ≤ 96 → Good rows w.state → Good rows (fed rows w bytes reply).world.state
 fed-good rows w bytes reply f g =

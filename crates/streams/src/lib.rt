@@ -1,14 +1,14 @@
-// Host streams: when one is refused, what a byte sends, and the answer.
+// Host streams: what a byte sends, and the answer.
 #![tactic(auto)]
 
 ghost use Rattle.std.specs.Prelude.{◌≡◌, ◌+◌, ◌≤◌, length, leb};
 ghost use Rattle.cells.specs.Memory.{written};
 ghost use Rattle.terminal.specs.State.{world, Sound};
-ghost use Rattle.streams.specs.Streams.{pending_reply, reply_to, host_refusal};
+ghost use Rattle.streams.specs.Streams.{pending_reply, reply_to};
 
 use terminal::Terminal;
 
-// The number, the bytes taken, the bytes written to the reply, and the state afterwards.
+// The number of document 01, as C reads it, the bytes taken, the bytes written to the reply, and the state afterwards.
 #[derive(Clone, Copy)]
 pub struct HostAnswer {
     pub number: u8,
@@ -17,29 +17,13 @@ pub struct HostAnswer {
     pub state: Terminal,
 }
 
-// 0 for a stream that is read, 1 for memories of another size, 2 for a state that is not good.
-pub fn refuse(t: Terminal, rows: usize, chars: &[u8], attrs: &[u8]) -> u8
-    requires { (24 ≤ rows) × (rows ≤ 96) }
-    ensures { result ≡ host_refusal rows (world t chars.now attrs.now) }
-{
-    if !terminal::is_sized(rows, chars, attrs) {
-        return 1;
-    }
-    if !t.is_good(rows) {
-        return 2;
-    }
-    0
-}
-
-// How many bytes the pending transfer sends.
+// How many bytes the pending transfer sends; its number may be any, so it is no enum.
 fn measure_pending(t: Terminal, rows: usize, chars: &[u8], attrs: &[u8]) -> usize
     requires { Sound rows (world t chars.now attrs.now) }
     ensures { result ≡ length (pending_reply (world t chars.now attrs.now)) }
 {
-    let pending = t.pending;
-    match pending {
-        1 => 12,
-        2 => 12,
+    match t.pending {
+        1 | 2 => 12,
         3 => 10,
         4 => replies::measure_block(chars, attrs, t.format, t.cursor.row),
         _ => 0,
@@ -80,31 +64,31 @@ fn send_pending(
     reply: &mut [u8],
     at: usize,
 ) -> usize
-    requires fact_1 { Sound rows (world t chars.now attrs.now) }
-    requires fact_2 { at + length (pending_reply (world t chars.now attrs.now)) ≤ length reply.old }
+    requires sound { Sound rows (world t chars.now attrs.now) }
+    requires room { at + length (pending_reply (world t chars.now attrs.now)) ≤ length reply.old }
     ensures value { result ≡ at + length (pending_reply (world t chars.now attrs.now)) }
     ensures reply_after { reply.new ≡ written reply.old at (pending_reply (world t chars.now attrs.now)) }
 {
-    let pending = t.pending;
-    if pending == 1 {
-        let message = replies::report_cursor(t.cursor.col, t.cursor.row, 82);
-        cells::write_at(reply, at, &message);
-        return at + 12;
+    match t.pending {
+        1 => {
+            let message = replies::report_cursor(t.cursor.col, t.cursor.row, b'R');
+            cells::write_at(reply, at, &message);
+            at + message.len()
+        }
+        2 => {
+            let row = t.cursor.row - t.cursor.top;
+            let message = replies::report_cursor(t.cursor.col, row, b'Y');
+            cells::write_at(reply, at, &message);
+            at + message.len()
+        }
+        3 => {
+            let message = replies::report_status(t.format, t.insert, t.lock);
+            cells::write_at(reply, at, &message);
+            at + message.len()
+        }
+        4 => replies::send_block(chars, attrs, t.format, t.cursor.row, reply, at),
+        _ => at,
     }
-    if pending == 2 {
-        let message = replies::report_cursor(t.cursor.col, t.cursor.row - t.cursor.top, 89);
-        cells::write_at(reply, at, &message);
-        return at + 12;
-    }
-    if pending == 3 {
-        let message = replies::report_status(t.format, t.insert, t.lock);
-        cells::write_at(reply, at, &message);
-        return at + 10;
-    }
-    if pending == 4 {
-        return replies::send_block(chars, attrs, t.format, t.cursor.row, reply, at);
-    }
-    at
 }
 
 // What an action sends, from byte `at` of the reply on; the place past the last byte.
@@ -117,8 +101,8 @@ pub fn send(
     reply: &mut [u8],
     at: usize,
 ) -> usize
-    requires fact_1 { Sound rows (world t chars.now attrs.now) }
-    requires fact_2 { at + length (reply_to a (world t chars.now attrs.now)) ≤ length reply.old }
+    requires sound { Sound rows (world t chars.now attrs.now) }
+    requires room { at + length (reply_to a (world t chars.now attrs.now)) ≤ length reply.old }
     ensures value { result ≡ at + length (reply_to a (world t chars.now attrs.now)) }
     ensures reply_after { reply.new ≡ written reply.old at (reply_to a (world t chars.now attrs.now)) }
 {

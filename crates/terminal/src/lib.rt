@@ -1,15 +1,23 @@
 // The terminal's state, by value, with one method an action: keys and host bytes share them. `rows` is the number of rows of the memory, 24 to 96.
 #![tactic(auto)]
 
-ghost use Rattle.std.specs.Prelude.{◌≡◌, true, false, cond, ◌*◌, ◌≤◌, ◌<◌, length, replicate};
+mod refusal;
+mod size;
+
+ghost use Rattle.std.specs.Prelude.{◌≡◌, true, false, cond, not, [], ◌∷◌, ◌*◌, ◌≤◌, ◌<◌, length, replicate};
 ghost use Rattle.cursor.specs.Cursor.{cell_of, gone_up, gone_down, gone_left, gone_right, in_column, risen, fallen, InPlace};
 ghost use Rattle.cursor.specs.Addressing.{to_column, to_row, to_window_row};
 ghost use Rattle.fields.specs.Fields.{marks};
 ghost use Rattle.reading.specs.Action.{number_of};
 ghost use Rattle.screen.specs.Edits.{homed, homed_down, line_fed, typed, display_cleared, line_cleared, char_deleted, row_inserted, row_deleted};
 ghost use Rattle.terminal.specs.State.{world, stated, placed, stopped, page_of, paged, fresh_state, fresh_world, is_good, is_sized, Sound, barred};
+ghost use Rattle.terminal.specs.Refusals.{◌when◌, first_refusal};
+ghost use Rattle.terminal.specs.Numbers.{answered};
 ghost use Rattle.terminal.specs.Fresh.{fresh_left, freshened};
 ghost use Rattle.terminal.specs.Acts.{formatted, inserting, locked, asking, softly_reset, tab_set, switched, tabbed_by, back_tabbed_by, steered, stamps, stamped, acted};
+
+pub use refusal::{Refusal, answer};
+pub use size::{Rows48, Rows96, Size};
 
 use changes::Changes;
 use cursor::Cursor;
@@ -82,6 +90,23 @@ pub fn is_sized(rows: usize, chars: &[u8], attrs: &[u8]) -> bool
     ensures { result ≡ is_sized rows chars.now attrs.now }
 {
     chars.len() == rows * 80 && attrs.len() == rows * 80
+}
+
+// The tests that calls begin with.
+impl Terminal {
+    // Refuses memories of another size, and a state that is not good, in this order.
+    pub fn check(self, rows: usize, chars: &[u8], attrs: &[u8]) -> Result<(), Refusal>
+        requires { (24 ≤ rows) × (rows ≤ 96) }
+        ensures { answered result ≡ first_refusal ((1 when not (is_sized rows chars.now attrs.now)) ∷ (2 when not (is_good rows self)) ∷ []) }
+    {
+        if !is_sized(rows, chars, attrs) {
+            return Err(Refusal::Size);
+        }
+        if !self.is_good(rows) {
+            return Err(Refusal::State);
+        }
+        Ok(())
+    }
 }
 
 // Modes, pending transfers and tab stops.
@@ -500,21 +525,14 @@ pub fn fresh_on(rows: usize, chars: &mut [u8], attrs: &mut [u8]) -> FreshAnswer
         };
     }
     FreshAnswer {
-        number: 1,
+        number: Refusal::Size.number(),
         state: Terminal::fresh_state(rows),
     }
 }
 
-// A fresh state, and a fresh memory of 96 rows in the lent buffers. Refuses buffers of another size with 1, and leaves them.
-pub fn fresh(chars: &mut [u8], attrs: &mut [u8]) -> FreshAnswer
-    ensures { fresh_left result chars.new attrs.new ≡ freshened 96 chars.old attrs.old }
+// A fresh state, and a fresh memory of a size in the lent buffers. Refuses buffers of another size with 1, and leaves them.
+pub fn fresh<S: Size>(chars: &mut [u8], attrs: &mut [u8]) -> FreshAnswer
+    ensures { fresh_left result chars.new attrs.new ≡ freshened S.size chars.old attrs.old }
 {
-    fresh_on(96, chars, attrs)
-}
-
-// `fresh` for a memory of 48 rows.
-pub fn fresh_48(chars: &mut [u8], attrs: &mut [u8]) -> FreshAnswer
-    ensures { fresh_left result chars.new attrs.new ≡ freshened 48 chars.old attrs.old }
-{
-    fresh_on(48, chars, attrs)
+    fresh_on(S::rows(), chars, attrs)
 }

@@ -2,7 +2,7 @@
 use Prim.Native.Nat.{◌+◌}
 use mathlib.Core.Path.{◌≡◌, refl, ap, sym, ◌∙◌}
 use native.Mathlib.Omega.{arith}
-use Rattle.cells.specs.Search.{at_or}
+use Rattle.std.specs.Prelude.{unwrap_or}
 use Rattle.cells.proofs.Search.{upto_next, upto-hit, upto-end}
 use Rattle.cells.proofs.Patch.{stored, done-upto}
 use Rattle.fields.specs.Fields.{marks, stripped, end_of_row, field_end}
@@ -19,7 +19,7 @@ returns-then-i-end c =
     let y = stored e.1 l.invariant.4 (omega arith) (omega arith) (ap stripped (l.invariant.4.high l.i (omega arith))) refl in
     let s = c.args in
     let k : l.i + 1 ≡ field_end (marks s.attrs.now) s.cell =
-    elim c.then-i-end.branch [ then-i-end-via-then-i-end w ↦ let q : l.i + 1 ≡ end_of_row s.cell = omega arith in q ∙ ap (at_or _) (upto-end l.invariant.2 (omega arith) ∙ first_marks _ _ _ _) | then-i-end-via-else-i-end+then-has_mark w ↦ ap (at_or _) (upto-hit l.invariant.2 (omega arith) (ap (has_mark 5) (sym (y.high (l.i + 1) (omega arith))) ∙ sym w.has_mark.ensures ∙ w.if-has_mark.true) ∙ first_marks _ _ _ _) ]
+    elim c.then-i-end.branch [ then-i-end-via-then-i-end w ↦ let q : l.i + 1 ≡ end_of_row s.cell = omega arith in q ∙ ap (λ f. unwrap_or f (end_of_row s.cell)) (upto-end l.invariant.2 (omega arith) ∙ first_marks _ _ _ _) | then-i-end-via-else-i-end+then-has_mark w ↦ ap (λ f. unwrap_or f (end_of_row s.cell)) (upto-hit l.invariant.2 (omega arith) (ap (has_mark 5) (sym (y.high (l.i + 1) (omega arith))) ∙ sym w.has_mark.ensures ∙ w.if-has_mark.true) ∙ first_marks _ _ _ _) ]
     in
     (done-upto _ x k, done-upto stripped y k)
 

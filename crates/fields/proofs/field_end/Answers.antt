@@ -1,15 +1,15 @@
 -- `fields::field_end` meets its contract: up to the cell at hand none is marked. Assumes nothing.
 use mathlib.Core.Path.{refl, ap, ◌∙◌}
 use native.Mathlib.Omega.{arith}
-use Rattle.cells.specs.Search.{at_or}
+use Rattle.std.specs.Prelude.{unwrap_or}
 use Rattle.cells.proofs.Search.{upto_next, upto-hit, upto-end}
-use Rattle.fields.specs.Fields.{field_end}
+use Rattle.fields.specs.Fields.{end_of_row, field_end}
 use Rattle.fields.proofs.Scans.{first_marks}
 use Rattle.fields.proofs.field_end.Goals as goal
 
 pub returns-then-has_mark : goal.returns-then-has_mark
 unfolding field_end
-returns-then-has_mark c = ap (at_or _) (upto-hit c.loop-i.invariant.1 (omega arith) (cc) ∙ first_marks _ _ _ _)
+returns-then-has_mark c = ap (λ f. unwrap_or f (end_of_row c.args.cell)) (upto-hit c.loop-i.invariant.1 (omega arith) (cc) ∙ first_marks _ _ _ _)
 
 pub loop-i-preserved : goal.loop-i-preserved
 unfolding field_end
@@ -17,4 +17,4 @@ loop-i-preserved c = (omega arith, upto_next c.loop-i.invariant.1 (omega arith) 
 
 pub returns : goal.returns
 unfolding field_end
-returns c = ap (at_or _) (upto-end c.loop-i.invariant.1 (omega arith) ∙ first_marks _ _ _ _)
+returns c = ap (λ f. unwrap_or f (end_of_row c.args.cell)) (upto-end c.loop-i.invariant.1 (omega arith) ∙ first_marks _ _ _ _)

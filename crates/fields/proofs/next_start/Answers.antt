@@ -1,10 +1,11 @@
--- `fields::next_start` meets its contract: the cell of the place that `next_spot` finds. Assumes nothing.
+-- `fields::next_start` meets its contract: what is not found behind the cell is the first up to it. Assumes nothing.
+use mathlib.Core.Path.{sym, ◌∙◌}
 use native.Mathlib.Omega.{arith}
-use Rattle.fields.proofs.Spots.{next-cell, next-inside}
+use Rattle.fields.proofs.Scans.{next-after, next-around}
 use Rattle.fields.proofs.next_start.Goals as goal
 
-pub overflow_mul-result : goal.overflow_mul-result
-overflow_mul-result c = let a = c.args in omega (arith, next-inside a.attrs.now a.cell _ (next-cell a.attrs.now a.cell (omega arith) c.next_spot-next.ensures c.in-In.is))
+pub returns-in-Some : goal.returns-in-Some
+returns-in-Some c = next-after _ _ (sym c.first_mark-after.ensures ∙ c.in-Some.is)
 
-pub overflow_add-result : goal.overflow_add-result
-overflow_add-result c = let a = c.args in omega (arith, next-inside a.attrs.now a.cell _ (next-cell a.attrs.now a.cell (omega arith) c.next_spot-next.ensures c.in-In.is))
+pub returns-in-None : goal.returns-in-None
+returns-in-None c = c.first_mark.ensures ∙ next-around _ _ (omega arith) (sym c.first_mark-after.ensures ∙ c.in-None.is)

@@ -8,14 +8,13 @@ use Rattle.changes.specs.Sets.{rows_of}
 use Rattle.changes.specs.Rows.{only}
 use Rattle.changes.proofs.Sets.{set-rows}
 use Rattle.cursor.proofs.Place.{row_in}
-use borrow.Author.Rules.{rules}
-use borrow.Author.Tests.{not-true, not-false, leb-true, leb-false}
-use lib.ListN.{length, drop}
+use borrow.Author.Tests.{leb-true, leb-false}
+use lib.ListN.{length}
 use native.Mathlib.Omega.{arith}
-use mathlib.Core.Path.{◌≡◌, refl, sym, ap, ◌∙◌}
+use mathlib.Core.Path.{◌≡◌, sym, ap, ◌∙◌}
 use Prim.Native.Nat.{ℕ, ◌+◌, ◌-◌, ◌≤◌}
-use Rattle.terminal.specs.State.{world, Sound}
-use Rattle.streams.specs.Streams.{reply_to, hosted, fed_on}
+use Rattle.terminal.specs.State.{world}
+use Rattle.streams.specs.Streams.{reply_to, hosted}
 use Rattle.host.proofs.feed_on.Goals as goal
 
 pub copy_text-got-requires : goal.copy_text-got-requires
@@ -39,7 +38,7 @@ returns-then-not-has_room c =
     let l = c.loop-i in
     let a = c.args in
     let w = world l.u l.chars l.attrs in
-    fed_on-stop a.rows a.bytes.now l.i l.at w l.reply (omega (arith, c.loop-i-test)) c.action_for-a.ensures (omega (arith, leb-false (length (reply_to c.action_for-a.result w)) (length l.reply - l.at) (sym c.has_room.ensures ∙ c.if-not-has_room.true), l.invariant.1)) ∙ l.invariant.4
+    ap (λ (n : ℕ). hosted n l.i l.at w l.reply) c.number.ensures ∙ fed_on-stop a.rows a.bytes.now l.i l.at w l.reply (omega (arith, c.loop-i-test)) c.action_for-a.ensures (omega (arith, leb-false (length (reply_to c.action_for-a.result w)) (length l.reply - l.at) (sym c.has_room.ensures ∙ c.if-not-has_room.true), l.invariant.1)) ∙ l.invariant.4
 
 pub loop-i-preserved : goal.loop-i-preserved
 loop-i-preserved c =

@@ -1,21 +1,10 @@
 -- `host::feed_on` meets its contract. The loop's invariant: the world is sound, the bytes sent fit, and the bytes left, run from here, leave what all bytes leave from the start.
 -- A run of text, the bytes of sequences, and any other byte each keep it. The measure is what is left of the bytes. Assumes nothing.
-use Rattle.streams.proofs.Streams.{fed_on-turn, fed_on-stop, fed_on-end}
-use Rattle.streams.proofs.Kept.{stepped-by-sound, sound-by}
-use Rattle.host.proofs.Runs.{free_in, text-turn}
-use Rattle.host.proofs.Sequences.{follow-on}
-use Rattle.changes.specs.Sets.{rows_of}
-use Rattle.changes.specs.Rows.{only}
-use Rattle.changes.proofs.Sets.{set-rows}
-use Rattle.cursor.proofs.Place.{row_in}
-use borrow.Author.Rules.{rules}
-use borrow.Author.Tests.{not-true, not-false, leb-true, leb-false}
 use lib.ListN.{length, drop}
-use native.Mathlib.Omega.{arith}
-use mathlib.Core.Path.{◌≡◌, refl, sym, ap, ◌∙◌}
-use Prim.Native.Nat.{ℕ, ◌+◌, ◌-◌, ◌≤◌}
+use mathlib.Core.Path.{◌≡◌}
+use Prim.Native.Nat.{◌-◌, ◌≤◌}
 use Rattle.terminal.specs.State.{world, Sound}
-use Rattle.streams.specs.Streams.{reply_to, hosted, fed_on}
+use Rattle.streams.specs.Streams.{fed_on}
 use Rattle.host.proofs.feed_on.Given as goal
 
 abbrev pub invariant-loop-i : goal.invariant-loop-i

@@ -1,17 +1,14 @@
 -- `host::host_on` meets its contract: refused by its number, or the stream of a sound world. Assumes nothing.
 use mathlib.Core.Path.{sym, ◌∙◌}
-use borrow.Author.Rules.{rules}
-use Rattle.streams.proofs.Kept.{refused-by, unrefused}
+use Rattle.streams.proofs.Kept.{closed-by, opened-by}
 use Rattle.streams.proofs.Steps.{fed-on}
 use Rattle.host.proofs.host_on.Goals as goal
 
-pub returns-then-n-ne0 : goal.returns-then-n-ne0
-returns-then-n-ne0 c = refused-by _ _ _ _ c.refuse-n.ensures c.if-n-ne0.true
+pub returns-in-Err : goal.returns-in-Err
+returns-in-Err c = closed-by _ _ c.check.ensures _ _ c.in-Err.is c.number.ensures
 
 pub feed_on-requires : goal.feed_on-requires
-feed_on-requires c = unrefused _ _ c.requires.1 (sym c.refuse-n.ensures ∙ c.if-n-ne0.false)
+feed_on-requires c = opened-by _ _ c.check.ensures c.requires.1 c.in_default.is
 
 pub returns : goal.returns
-returns c =
-    let s = unrefused _ _ c.requires.1 (sym c.refuse-n.ensures ∙ c.if-n-ne0.false) in
-    c.feed_on.ensures ∙ sym (fed-on s _ _)
+returns c = let s = opened-by _ _ c.check.ensures c.requires.1 c.in_default.is in c.feed_on.ensures ∙ sym (fed-on s _ _)

@@ -1,6 +1,5 @@
 -- `host::read_on` meets its contract: the number counted, the reading state after it. Assumes nothing.
 use Rattle.streams.specs.Streams.{read_on}
-use borrow.Author.Rules.{rules}
 use Rattle.host.proofs.read_on.Goals as goal
 
 pub returns : goal.returns

@@ -7,7 +7,6 @@ use Rattle.terminal.specs.declared.Terminal.{Terminal}
 use Rattle.terminal.specs.State.{World, world, stated}
 use Prim.Native.Nat.{◌%◌}
 use mathlib.Core.Path.{ap, ◌∙◌}
-use borrow.Author.Rules.{rules}
 use Rattle.host.proofs.step.Goals as goal
 
 pub read_on-requires : goal.read_on-requires

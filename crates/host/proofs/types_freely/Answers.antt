@@ -1,7 +1,5 @@
 -- `host::types_freely` meets its contract: its tests are the definition's, in their order. Assumes nothing.
 use mathlib.Core.Path.{sym, ◌∙◌}
-use borrow.Author.Rules.{rules}
-use borrow.Author.Tests.{not-true, not-false}
 use Rattle.host.proofs.Runs.{no_text, reads_on, formats, inserts, by-room}
 use Rattle.host.proofs.types_freely.Goals as goal
 

@@ -10,16 +10,16 @@ use Rattle.key.proofs.refuse_text.Goals as goal
 
 pub kind_at-kind-requires : goal.kind_at-kind-requires
 unfolding aim_refusal first_refusal disallows
-kind_at-kind-requires c = target-inside _ _ _ (omega arith) (sym c.find_target-to.ensures ∙ c.in-At.is)
+kind_at-kind-requires c = target-inside _ _ _ (omega arith) (sym c.find_target-to.ensures ∙ c.in-Some.is)
 
 pub returns-then-allows : goal.returns-then-allows
 unfolding aim_refusal first_refusal disallows
-returns-then-allows c = rw (← c.find_target-to.ensures, c.in-At.is, ← c.kind_at-kind.ensures, ← c.allows.ensures, c.if-allows.true)
+returns-then-allows c = rw (← c.find_target-to.ensures, c.in-Some.is, ← c.kind_at-kind.ensures, ← c.allows.ensures, c.if-allows.true)
 
 pub returns-else-allows : goal.returns-else-allows
 unfolding aim_refusal first_refusal disallows
-returns-else-allows c = rw (← c.find_target-to.ensures, c.in-At.is, ← c.kind_at-kind.ensures, ← c.allows.ensures, c.if-allows.false)
+returns-else-allows c = rw (← c.find_target-to.ensures, c.in-Some.is, ← c.kind_at-kind.ensures, ← c.allows.ensures, c.if-allows.false)
 
-pub returns-in-Nothing : goal.returns-in-Nothing
+pub returns-in-None : goal.returns-in-None
 unfolding aim_refusal first_refusal disallows
-returns-in-Nothing c = rw (← c.find_target-to.ensures, c.in-Nothing.is)
+returns-in-None c = rw (← c.find_target-to.ensures, c.in-None.is)

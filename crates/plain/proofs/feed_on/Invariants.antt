@@ -1,21 +1,13 @@
--- `plain::feed_on` meets its contract. The loop's invariant: the world is sound, the bytes sent fit, and the bytes left, run from here, leave what all bytes leave from the start.
--- The measure is what is left of the bytes. Assumes nothing.
-use Prim.Native.Nat.{ℕ, ◌+◌, ◌-◌, ◌≤◌}
-use mathlib.Core.Path.{◌≡◌, refl, sym, ap, ◌∙◌}
-use native.Mathlib.Omega.{arith}
+-- `plain::feed_on` meets its contract. The loop's invariant: the bytes sent fit, the world is sound, and the bytes left, run from here, leave what all bytes leave from the start.
+-- Assumes nothing.
+use Prim.Native.Nat.{◌≤◌}
+use mathlib.Core.Path.{◌≡◌}
 use lib.ListN.{length, drop}
-use borrow.Author.Tests.{not-true, not-false, leb-true, leb-false}
 use Rattle.terminal.specs.State.{world, Sound}
-use Rattle.streams.specs.Streams.{reply_to, hosted, fed_on}
-use Rattle.streams.proofs.Streams.{fed_on-turn, fed_on-stop, fed_on-end}
-use Rattle.streams.proofs.Kept.{stepped-by-sound, sound-by}
-use Rattle.plain.proofs.Agreement.{action-as, step-as}
+use Rattle.streams.specs.Streams.{fed_on}
 use Rattle.plain.proofs.feed_on.Given as goal
 
 abbrev pub invariant-loop-i : goal.invariant-loop-i
 invariant-loop-i l =
-    (l.i ≤ length l.bytes) × (l.at ≤ length l.reply) × (length l.reply ≡ length l.initial.reply) × Sound l.rows (world l.u l.chars l.attrs)
+    (l.at ≤ length l.reply) × Sound l.rows (world l.u l.chars l.attrs)
     × (fed_on l.rows (drop l.i l.bytes) l.i l.at (world l.u l.chars l.attrs) l.reply ≡ fed_on l.rows l.bytes 0 0 (world l.initial.u l.initial.chars l.initial.attrs) l.initial.reply)
-
-abbrev pub decreases-loop-i : goal.decreases-loop-i
-decreases-loop-i l = length l.bytes - l.i

@@ -1,6 +1,5 @@
 -- `plain::step` meets its contract: the action, then the reading state and the number after it. Assumes nothing.
 use mathlib.Core.Path.{ap}
-use borrow.Author.Rules.{rules}
 use Rattle.terminal.specs.State.{World, stated, reread}
 use Rattle.plain.specs.Plain.{stepped_to}
 use Rattle.plain.proofs.step.Goals as goal

@@ -49,16 +49,16 @@ post_field-requires-clause-fact_1 c = let a = c.args in let s = sound-in {w = wo
 
 pub post_field-requires-clause-fact_2 : goal.post_field-requires-clause-fact_2
 unfolding entered_if refusal_if posted_in_if field_refusal_if first_refusal posted_at is_too_long misfits
-post_field-requires-clause-fact_2 c = let a = c.args in let s = sound-in {w = world a.t a.chars.now a.attrs.now} c.requires.1 (sym c.is_sized.ensures ∙ c.if-not-is_sized.false) (sym c.is_good.ensures ∙ c.if-not-is_good.false) in (field-inside s a.field _ (sym c.nth_field-start.ensures ∙ c.in-At.is)).0
+post_field-requires-clause-fact_2 c = let a = c.args in let s = sound-in {w = world a.t a.chars.now a.attrs.now} c.requires.1 (sym c.is_sized.ensures ∙ c.if-not-is_sized.false) (sym c.is_good.ensures ∙ c.if-not-is_good.false) in (field-inside s a.field _ (sym c.nth_field-start.ensures ∙ c.in-Some.is)).0
 
-pub returns-in-At-clause-attrs_after : goal.returns-in-At-clause-attrs_after
+pub returns-in-Some-clause-attrs_after : goal.returns-in-Some-clause-attrs_after
 unfolding entered_if refusal_if posted_in_if field_refusal_if first_refusal posted_at is_too_long misfits
-returns-in-At-clause-attrs_after c = let a = c.args in let o : PostOpen a.rows (world a.t a.chars.now a.attrs.now) = record { sized = sym c.is_sized.ensures ∙ c.if-not-is_sized.false; good = sym c.is_good.ensures ∙ c.if-not-is_good.false; unbarred = sym c.is_barred.ensures ∙ c.if-is_barred.false; formatted = not-false a.t.format c.if-not-t.false } in post-found o a.owned a.field a.text.now (sym c.nth_field-start.ensures ∙ c.in-At.is) c.post_field.ensures.attrs_after
+returns-in-Some-clause-attrs_after c = let a = c.args in let o : PostOpen a.rows (world a.t a.chars.now a.attrs.now) = record { sized = sym c.is_sized.ensures ∙ c.if-not-is_sized.false; good = sym c.is_good.ensures ∙ c.if-not-is_good.false; unbarred = sym c.is_barred.ensures ∙ c.if-is_barred.false; formatted = not-false a.t.format c.if-not-t.false } in post-found o a.owned a.field a.text.now (sym c.nth_field-start.ensures ∙ c.in-Some.is) c.post_field.ensures.attrs_after
 
-pub returns-in-Nothing-clause-attrs_after : goal.returns-in-Nothing-clause-attrs_after
+pub returns-in-None-clause-attrs_after : goal.returns-in-None-clause-attrs_after
 unfolding entered_if refusal_if posted_in_if field_refusal_if first_refusal posted_at is_too_long misfits
-returns-in-Nothing-clause-attrs_after c = let a = c.args in let o : PostOpen a.rows (world a.t a.chars.now a.attrs.now) = record { sized = sym c.is_sized.ensures ∙ c.if-not-is_sized.false; good = sym c.is_good.ensures ∙ c.if-not-is_good.false; unbarred = sym c.is_barred.ensures ∙ c.if-is_barred.false; formatted = not-false a.t.format c.if-not-t.false } in post-found o a.owned a.field a.text.now (sym c.nth_field-start.ensures ∙ c.in-Nothing.is) (rw c.leave-in-Nothing.ensures.0)
+returns-in-None-clause-attrs_after c = let a = c.args in let o : PostOpen a.rows (world a.t a.chars.now a.attrs.now) = record { sized = sym c.is_sized.ensures ∙ c.if-not-is_sized.false; good = sym c.is_good.ensures ∙ c.if-not-is_good.false; unbarred = sym c.is_barred.ensures ∙ c.if-is_barred.false; formatted = not-false a.t.format c.if-not-t.false } in post-found o a.owned a.field a.text.now (sym c.nth_field-start.ensures ∙ c.in-None.is) (rw c.leave-in-None.ensures.0)
 
-pub returns-in-Nothing-clause-changes_value : goal.returns-in-Nothing-clause-changes_value
+pub returns-in-None-clause-changes_value : goal.returns-in-None-clause-changes_value
 unfolding entered_if refusal_if posted_in_if field_refusal_if first_refusal posted_at is_too_long misfits
-returns-in-Nothing-clause-changes_value c = let a = c.args in let o : PostOpen a.rows (world a.t a.chars.now a.attrs.now) = record { sized = sym c.is_sized.ensures ∙ c.if-not-is_sized.false; good = sym c.is_good.ensures ∙ c.if-not-is_good.false; unbarred = sym c.is_barred.ensures ∙ c.if-is_barred.false; formatted = not-false a.t.format c.if-not-t.false } in no_row a.rows a.chars.now a.attrs.now (c.leave-in-Nothing.ensures.1 a.rows)
+returns-in-None-clause-changes_value c = let a = c.args in let o : PostOpen a.rows (world a.t a.chars.now a.attrs.now) = record { sized = sym c.is_sized.ensures ∙ c.if-not-is_sized.false; good = sym c.is_good.ensures ∙ c.if-not-is_good.false; unbarred = sym c.is_barred.ensures ∙ c.if-is_barred.false; formatted = not-false a.t.format c.if-not-t.false } in no_row a.rows a.chars.now a.attrs.now (c.leave-in-None.ensures.1 a.rows)

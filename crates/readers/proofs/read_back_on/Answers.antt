@@ -24,25 +24,25 @@ read_field-requires c =
     let w = world a.t a.chars.now a.attrs.now in
     let o = read-open a.rows w a.owners.now (sym c.refuse_early-number.ensures ∙ c.if-number-ne0.false) in
     let v = sound-in {w = w} c.requires.1 o.sized o.good in
-    row_inside v a.field _ (sym c.nth_field-start.ensures ∙ c.in-At.is)
+    row_inside v a.field _ (sym c.nth_field-start.ensures ∙ c.in-Some.is)
 
-pub returns-in-At : goal.returns-in-At
+pub returns-in-Some : goal.returns-in-Some
 unfolding text_in_field
-returns-in-At c =
+returns-in-Some c =
     let a = c.args in
     let w = world a.t a.chars.now a.attrs.now in
     read_found a.rows w a.owners.now a.reader a.field a.out.now
     (read-open a.rows w a.owners.now (sym c.refuse_early-number.ensures ∙ c.if-number-ne0.false))
-    (sym c.nth_field-start.ensures ∙ c.in-At.is)
+    (sym c.nth_field-start.ensures ∙ c.in-Some.is)
     c.owns_field-owned.ensures
     c.read_field.ensures
 
-pub returns-in-Nothing : goal.returns-in-Nothing
-returns-in-Nothing c =
+pub returns-in-None : goal.returns-in-None
+returns-in-None c =
     let a = c.args in
     let w = world a.t a.chars.now a.attrs.now in
     read_found a.rows w a.owners.now a.reader a.field a.out.now
     (read-open a.rows w a.owners.now (sym c.refuse_early-number.ensures ∙ c.if-number-ne0.false))
-    (sym c.nth_field-start.ensures ∙ c.in-Nothing.is)
+    (sym c.nth_field-start.ensures ∙ c.in-None.is)
     c.owns_field-owned.ensures
-    ((λ j. left (c.read_none-in-Nothing.ensures.0 j) (c.read_none-in-Nothing.ensures.1 j) a.out.now) ∙ read-nothing _ _ a.out.now)
+    ((λ j. left (c.read_none-in-None.ensures.0 j) (c.read_none-in-None.ensures.1 j) a.out.now) ∙ read-nothing _ _ a.out.now)

@@ -5,7 +5,7 @@ use mathlib.Core.List.{List}
 use Prim.Native.Nat.{ℕ}
 use borrow.Author.Rules.{rules}
 use borrow.Author.Tests.{not-true, not-false}
-use Rattle.cells.specs.declared.Found.TheVariants.{At}
+use Rattle.std.specs.Prelude.{Some}
 use Rattle.fields.specs.Fields.{marks}
 use Rattle.replies.specs.Replies.{field_text}
 use Rattle.readers.specs.Field.{read_in}
@@ -17,16 +17,16 @@ returns-then-not-owned c =
     let a = c.args in
     let text = field_text a.chars.now (marks a.attrs.now) a.k in
     (λ j. left (c.read_none.ensures.0 j) (c.read_none.ensures.1 j) a.out.now) ∙ read-unowned text a.k a.out.now
-    ∙ ap (λ (o : Bool). read_in text o (At a.k) a.out.now) (sym (c.if-not-owned.true))
+    ∙ ap (λ (o : Bool). read_in text o (Some a.k) a.out.now) (sym (c.if-not-owned.true))
 
 pub returns-then-out-text : goal.returns-then-out-text
 returns-then-out-text c =
     let a = c.args in
     (λ j. left (c.read_none-then-out-text.ensures.0 j) (c.read_none-then-out-text.ensures.1 j) a.out.now) ∙ read_short c.field_part-text.result.now a.k a.out.now c.if-out-text.true
-    ∙ ap₂ (λ (t : List ℕ) (o : Bool). read_in t o (At a.k) a.out.now) c.field_part-text.ensures (sym (c.if-not-owned.false))
+    ∙ ap₂ (λ (t : List ℕ) (o : Bool). read_in t o (Some a.k) a.out.now) c.field_part-text.ensures (sym (c.if-not-owned.false))
 
 pub returns : goal.returns
 returns c =
     let a = c.args in
     read_done c.field_part-text.result.now a.k a.out.now c.if-out-text.false c.write_at.ensures
-    ∙ ap₂ (λ (t : List ℕ) (o : Bool). read_in t o (At a.k) a.out.now) c.field_part-text.ensures (sym (c.if-not-owned.false))
+    ∙ ap₂ (λ (t : List ℕ) (o : Bool). read_in t o (Some a.k) a.out.now) c.field_part-text.ensures (sym (c.if-not-owned.false))

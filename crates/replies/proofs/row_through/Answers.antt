@@ -9,5 +9,5 @@ use Rattle.replies.proofs.row_through.Goals as goal
 pub overflow_add-result : goal.overflow_add-result
 overflow_add-result c =
     let a = c.args in
-    let e = ap (through (a.row * 80)) (sym c.in-At.is ∙ c.last_text-last.ensures) in
+    let e = ap (through (a.row * 80)) (sym c.in-Some.is ∙ c.last_text-last.ensures) in
     omega (arith, row_in a.chars.now a.row (omega arith) e)

@@ -1,8 +1,5 @@
 -- `report::report_on` meets its contract, by the test of the state. Assumes nothing.
 use mathlib.Core.Path.{sym, ap₂, ◌∙◌}
-use native.Mathlib.Omega.{arith}
-use borrow.Author.Rules.{rules}
-use borrow.Author.Tests.{not-true, not-false}
 use Rattle.changes.specs.declared.Changes.{Changes}
 use Rattle.changes.specs.declared.Report.{Report}
 use Rattle.terminal.specs.State.{flagged}
@@ -14,7 +11,7 @@ use Rattle.report.proofs.report_on.Goals as goal
 
 pub returns-then-not-is_good : goal.returns-then-not-is_good
 unfolding reported report_refusal first_refusal
-returns-then-not-is_good c = rw (sym c.is_good.ensures ∙ c.if-not-is_good.true)
+returns-then-not-is_good c = rw (c.number.ensures, sym c.is_good.ensures ∙ c.if-not-is_good.true)
 
 pub report-told-requires : goal.report-told-requires
 unfolding reported report_refusal first_refusal

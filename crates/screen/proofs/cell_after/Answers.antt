@@ -7,10 +7,10 @@ pub returns-then-k-end : goal.returns-then-k-end
 unfolding cell_after
 returns-then-k-end c = rw (← c.field_end-end.ensures, lt-ltb _ _ c.if-k-end.true)
 
-pub returns-in-At : goal.returns-in-At
+pub returns-in-Some : goal.returns-in-Some
 unfolding cell_after
-returns-in-At c = rw (← c.field_end-end.ensures, le-ltb _ _ c.if-k-end.false, ← c.next_start-next.ensures, c.in-At.is)
+returns-in-Some c = rw (← c.field_end-end.ensures, le-ltb _ _ c.if-k-end.false, ← c.next_start-next.ensures, c.in-Some.is)
 
-pub returns-in-Nothing : goal.returns-in-Nothing
+pub returns-in-None : goal.returns-in-None
 unfolding cell_after
-returns-in-Nothing c = rw (← c.field_end-end.ensures, le-ltb _ _ c.if-k-end.false, ← c.next_start-next.ensures, c.in-Nothing.is)
+returns-in-None c = rw (← c.field_end-end.ensures, le-ltb _ _ c.if-k-end.false, ← c.next_start-next.ensures, c.in-None.is)

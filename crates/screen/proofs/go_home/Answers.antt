@@ -2,13 +2,13 @@
 use Rattle.screen.specs.Edits.{homed}
 use Rattle.screen.proofs.go_home.Goals as goal
 
-pub returns-in-At : goal.returns-in-At
+pub returns-in-Some : goal.returns-in-Some
 unfolding homed
-returns-in-At c = rw (c.if-format.true, ← c.first_start-first.ensures, c.in-At.is) c.home_to.ensures
+returns-in-Some c = rw (c.if-format.true, ← c.first_start-first.ensures, c.in-Some.is) c.home_to.ensures
 
-pub returns-in-Nothing : goal.returns-in-Nothing
+pub returns-in-None : goal.returns-in-None
 unfolding homed
-returns-in-Nothing c = rw (c.if-format.true, ← c.first_start-first.ensures, c.in-Nothing.is) c.home_to-in-Nothing.ensures
+returns-in-None c = rw (c.if-format.true, ← c.first_start-first.ensures, c.in-None.is) c.home_to-in-None.ensures
 
 pub returns : goal.returns
 unfolding homed

@@ -2,7 +2,6 @@
 use Rattle.streams.proofs.Answers.{reply-ack, reply-trigger, reply-none}
 use lib.ListN.{length}
 use mathlib.Core.Path.{sym, ap, ◌∙◌}
-use borrow.Author.Rules.{rules}
 use Rattle.streams.proofs.measure.Goals as goal
 
 pub returns-then-a-eq-ACK : goal.returns-then-a-eq-ACK

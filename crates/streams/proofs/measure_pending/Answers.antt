@@ -1,18 +1,14 @@
 -- `streams::measure_pending` meets its contract: the length of each pending transfer's reply. Assumes nothing.
 use Rattle.std.proofs.Common.{arith}
 use Rattle.terminal.specs.State.{world}
-use Rattle.streams.proofs.Answers.{pending-absolute, pending-window, pending-status, pending-block, pending-none}
-use Rattle.replies.proofs.Longest.{cursor-length, status-length}
+use Rattle.streams.proofs.Answers.{pending-place, pending-status, pending-block, pending-none}
+use Rattle.replies.proofs.Longest.{status-length}
 use lib.ListN.{length}
 use mathlib.Core.Path.{sym, ap, ◌∙◌}
-use borrow.Author.Rules.{rules}
 use Rattle.streams.proofs.measure_pending.Goals as goal
 
 pub returns-in-1 : goal.returns-in-1
-returns-in-1 c = sym (ap length (pending-absolute _ c.in-1.is) ∙ cursor-length _ _ _)
-
-pub returns-in-2 : goal.returns-in-2
-returns-in-2 c = sym (ap length (pending-window _ c.in-2.is) ∙ cursor-length _ _ _)
+returns-in-1 c = sym (pending-place (world c.args.t c.args.chars.now c.args.attrs.now) (omega arith) (omega arith))
 
 pub returns-in-3 : goal.returns-in-3
 returns-in-3 c = sym (ap length (pending-status _ c.in-3.is) ∙ status-length _ _ _)

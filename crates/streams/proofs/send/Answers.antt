@@ -5,7 +5,6 @@ use Rattle.terminal.specs.State.{world}
 use lib.ListN.{length}
 use native.Mathlib.Omega.{arith}
 use mathlib.Core.Path.{refl, sym, ap}
-use borrow.Author.Rules.{rules}
 use Rattle.streams.proofs.send.Goals as goal
 
 pub write_at-requires : goal.write_at-requires
@@ -27,11 +26,11 @@ returns-then-a-eq-ACK-clause-reply_after c =
     let w = world a.t a.chars.now a.attrs.now in
     rw (reply-ack a.a w c.if-a-eq-ACK.true) c.write_at.ensures
 
-pub send_pending-requires-clause-fact_2 : goal.send_pending-requires-clause-fact_2
-send_pending-requires-clause-fact_2 c =
+pub send_pending-requires-clause-room : goal.send_pending-requires-clause-room
+send_pending-requires-clause-room c =
     let a = c.args in
     let w = world a.t a.chars.now a.attrs.now in
-    rw (← reply-trigger a.a w c.if-a-eq-TRIGGER.true) c.requires.fact_2
+    rw (← reply-trigger a.a w c.if-a-eq-TRIGGER.true) c.requires.room
 
 pub returns-then-a-eq-TRIGGER-clause-value : goal.returns-then-a-eq-TRIGGER-clause-value
 returns-then-a-eq-TRIGGER-clause-value c =

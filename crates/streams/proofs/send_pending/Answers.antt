@@ -1,100 +1,81 @@
 -- `streams::send_pending` meets its contract: by the pending transfer's number, its reply is written. Assumes nothing.
-use Prim.Native.Nat.{◌-◌}
+use Rattle.std.proofs.Common.{arith}
 use Rattle.streams.proofs.Answers.{pending-absolute, pending-window, pending-status, pending-block, pending-none}
 use Rattle.replies.proofs.Longest.{cursor-length, status-length}
 use Rattle.cells.proofs.Splice.{written_none}
 use Rattle.terminal.specs.State.{world}
 use lib.ListN.{length}
-use native.Mathlib.Omega.{arith}
-use mathlib.Core.Path.{refl, sym, ap}
-use borrow.Author.Rules.{rules}
+use mathlib.Core.Path.{sym, ap, ◌∙◌}
 use Rattle.streams.proofs.send_pending.Goals as goal
 
 pub write_at-requires : goal.write_at-requires
 write_at-requires c =
-    let a = c.args in
-    let w = world a.t a.chars.now a.attrs.now in
-    let e = ap length (pending-absolute w c.if-pending-eq1.true) in
-    omega (arith, e, cursor-length a.t.cursor.col a.t.cursor.row 82)
+    let w = world c.args.t c.args.chars.now c.args.attrs.now in
+    rw (c.report_cursor-message.ensures, ← pending-absolute w c.in-1.is) c.requires.room
 
-pub returns-then-pending-eq1-clause-value : goal.returns-then-pending-eq1-clause-value
-returns-then-pending-eq1-clause-value c =
-    let a = c.args in
-    let w = world a.t a.chars.now a.attrs.now in
-    rw (pending-absolute w c.if-pending-eq1.true, cursor-length a.t.cursor.col a.t.cursor.row 82) refl
+pub write_at-requires-in-2 : goal.write_at-requires-in-2
+write_at-requires-in-2 c =
+    let w = world c.args.t c.args.chars.now c.args.attrs.now in
+    rw (c.report_cursor-message-in-2.ensures, ← pending-window w c.in-2.is) c.requires.room
 
-pub returns-then-pending-eq1-clause-reply_after : goal.returns-then-pending-eq1-clause-reply_after
-returns-then-pending-eq1-clause-reply_after c =
-    let a = c.args in
-    let w = world a.t a.chars.now a.attrs.now in
-    rw (pending-absolute w c.if-pending-eq1.true) (rw (← c.report_cursor-message.ensures) c.write_at.ensures)
-
-pub write_at-requires-then-pending-eq2 : goal.write_at-requires-then-pending-eq2
-write_at-requires-then-pending-eq2 c =
-    let a = c.args in
-    let w = world a.t a.chars.now a.attrs.now in
-    let e = ap length (pending-window w c.if-pending-eq2.true) in
-    omega (arith, e, cursor-length a.t.cursor.col (a.t.cursor.row - a.t.cursor.top) 89)
-
-pub returns-then-pending-eq2-clause-value : goal.returns-then-pending-eq2-clause-value
-returns-then-pending-eq2-clause-value c =
-    let a = c.args in
-    let w = world a.t a.chars.now a.attrs.now in
-    rw (pending-window w c.if-pending-eq2.true, cursor-length a.t.cursor.col (a.t.cursor.row - a.t.cursor.top) 89) refl
-
-pub returns-then-pending-eq2-clause-reply_after : goal.returns-then-pending-eq2-clause-reply_after
-returns-then-pending-eq2-clause-reply_after c =
-    let a = c.args in
-    let w = world a.t a.chars.now a.attrs.now in
-    rw (pending-window w c.if-pending-eq2.true) (rw (← c.report_cursor-message-then-pending-eq2.ensures) c.write_at-then-pending-eq2.ensures)
-
-pub write_at-requires-then-pending-eq3 : goal.write_at-requires-then-pending-eq3
-write_at-requires-then-pending-eq3 c =
-    let a = c.args in
-    let w = world a.t a.chars.now a.attrs.now in
-    let e = ap length (pending-status w c.if-pending-eq3.true) in
-    omega (arith, e, status-length a.t.format a.t.insert a.t.lock)
-
-pub returns-then-pending-eq3-clause-value : goal.returns-then-pending-eq3-clause-value
-returns-then-pending-eq3-clause-value c =
-    let a = c.args in
-    let w = world a.t a.chars.now a.attrs.now in
-    rw (pending-status w c.if-pending-eq3.true, status-length a.t.format a.t.insert a.t.lock) refl
-
-pub returns-then-pending-eq3-clause-reply_after : goal.returns-then-pending-eq3-clause-reply_after
-returns-then-pending-eq3-clause-reply_after c =
-    let a = c.args in
-    let w = world a.t a.chars.now a.attrs.now in
-    rw (pending-status w c.if-pending-eq3.true) (rw (← c.report_status-message.ensures) c.write_at-then-pending-eq3.ensures)
+pub write_at-requires-in-3 : goal.write_at-requires-in-3
+write_at-requires-in-3 c =
+    let w = world c.args.t c.args.chars.now c.args.attrs.now in
+    rw (c.report_status-message.ensures, ← pending-status w c.in-3.is) c.requires.room
 
 pub send_block-requires-clause-fact_2 : goal.send_block-requires-clause-fact_2
 send_block-requires-clause-fact_2 c =
-    let a = c.args in
-    let w = world a.t a.chars.now a.attrs.now in
-    let e = ap length (pending-block w c.if-pending-eq4.true) in
-    let s = c.requires.fact_1 in
-    omega (arith, e)
+    let w = world c.args.t c.args.chars.now c.args.attrs.now in
+    rw (← pending-block w c.in-4.is) c.requires.room
 
-pub returns-then-pending-eq4-clause-value : goal.returns-then-pending-eq4-clause-value
-returns-then-pending-eq4-clause-value c =
-    let a = c.args in
-    let w = world a.t a.chars.now a.attrs.now in
-    rw (pending-block w c.if-pending-eq4.true) c.send_block.ensures.value
+pub returns-in-1-clause-value : goal.returns-in-1-clause-value
+returns-in-1-clause-value c =
+    let w = world c.args.t c.args.chars.now c.args.attrs.now in
+    omega (arith, ap length (pending-absolute w c.in-1.is) ∙ cursor-length _ _ _)
 
-pub returns-then-pending-eq4-clause-reply_after : goal.returns-then-pending-eq4-clause-reply_after
-returns-then-pending-eq4-clause-reply_after c =
-    let a = c.args in
-    let w = world a.t a.chars.now a.attrs.now in
-    rw (pending-block w c.if-pending-eq4.true) c.send_block.ensures.reply_after
+pub returns-in-1-clause-reply_after : goal.returns-in-1-clause-reply_after
+returns-in-1-clause-reply_after c =
+    let w = world c.args.t c.args.chars.now c.args.attrs.now in
+    rw (pending-absolute w c.in-1.is, ← c.report_cursor-message.ensures) c.write_at.ensures
 
-pub returns-clause-value : goal.returns-clause-value
-returns-clause-value c =
-    let a = c.args in
-    let w = world a.t a.chars.now a.attrs.now in
-    rw (pending-none w c.if-pending-eq1.false c.if-pending-eq2.false c.if-pending-eq3.false c.if-pending-eq4.false) (omega arith)
+pub returns-in-2-clause-value : goal.returns-in-2-clause-value
+returns-in-2-clause-value c =
+    let w = world c.args.t c.args.chars.now c.args.attrs.now in
+    omega (arith, ap length (pending-window w c.in-2.is) ∙ cursor-length _ _ _)
 
-pub returns-clause-reply_after : goal.returns-clause-reply_after
-returns-clause-reply_after c =
+pub returns-in-2-clause-reply_after : goal.returns-in-2-clause-reply_after
+returns-in-2-clause-reply_after c =
+    let w = world c.args.t c.args.chars.now c.args.attrs.now in
+    rw (pending-window w c.in-2.is, ← c.report_cursor-message-in-2.ensures) c.write_at-in-2.ensures
+
+pub returns-in-3-clause-value : goal.returns-in-3-clause-value
+returns-in-3-clause-value c =
+    let w = world c.args.t c.args.chars.now c.args.attrs.now in
+    omega (arith, ap length (pending-status w c.in-3.is) ∙ status-length _ _ _)
+
+pub returns-in-3-clause-reply_after : goal.returns-in-3-clause-reply_after
+returns-in-3-clause-reply_after c =
+    let w = world c.args.t c.args.chars.now c.args.attrs.now in
+    rw (pending-status w c.in-3.is, ← c.report_status-message.ensures) c.write_at-in-3.ensures
+
+pub returns-in-4-clause-value : goal.returns-in-4-clause-value
+returns-in-4-clause-value c =
+    let w = world c.args.t c.args.chars.now c.args.attrs.now in
+    rw (pending-block w c.in-4.is) c.send_block.ensures.value
+
+pub returns-in-4-clause-reply_after : goal.returns-in-4-clause-reply_after
+returns-in-4-clause-reply_after c =
+    let w = world c.args.t c.args.chars.now c.args.attrs.now in
+    rw (pending-block w c.in-4.is) c.send_block.ensures.reply_after
+
+pub returns-in_default-clause-value : goal.returns-in_default-clause-value
+returns-in_default-clause-value c =
     let a = c.args in
-    let w = world a.t a.chars.now a.attrs.now in
-    rw (pending-none w c.if-pending-eq1.false c.if-pending-eq2.false c.if-pending-eq3.false c.if-pending-eq4.false) (sym (written_none _ _))
+    let none = pending-none (world a.t a.chars.now a.attrs.now) (omega arith) (omega arith) (omega arith) (omega arith) in
+    rw none (omega arith)
+
+pub returns-in_default-clause-reply_after : goal.returns-in_default-clause-reply_after
+returns-in_default-clause-reply_after c =
+    let a = c.args in
+    let none = pending-none (world a.t a.chars.now a.attrs.now) (omega arith) (omega arith) (omega arith) (omega arith) in
+    rw none (sym (written_none _ _))

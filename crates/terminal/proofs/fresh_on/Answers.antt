@@ -12,4 +12,4 @@ pub returns-then-is_sized : goal.returns-then-is_sized
 returns-then-is_sized c = freshened-done c.args.rows c.args.chars.now c.args.attrs.now (sym c.is_sized.ensures ∙ c.if-is_sized.true) c.reset_hard.ensures
 
 pub returns : goal.returns
-returns c = freshened-not c.args.rows c.args.chars.now c.args.attrs.now (sym c.is_sized.ensures ∙ c.if-is_sized.false) c.fresh_state.ensures
+returns c = rw (c.number.ensures, freshened-not c.args.rows c.args.chars.now c.args.attrs.now (sym c.is_sized.ensures ∙ c.if-is_sized.false) c.fresh_state.ensures)

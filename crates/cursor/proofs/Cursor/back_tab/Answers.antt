@@ -2,10 +2,10 @@
 use Rattle.cursor.specs.Stops.{back_tabbed}
 use Rattle.cursor.proofs.Cursor.back_tab.Goals as goal
 
-pub returns-in-At : goal.returns-in-At
+pub returns-in-Some : goal.returns-in-Some
 unfolding back_tabbed
-returns-in-At c = rw (← c.last_stop-found.ensures, c.in-At.is) c.go_in.ensures
+returns-in-Some c = rw (← c.last_stop-found.ensures, c.in-Some.is) c.go_in.ensures
 
-pub returns-in-Nothing : goal.returns-in-Nothing
+pub returns-in-None : goal.returns-in-None
 unfolding back_tabbed
-returns-in-Nothing c = rw (← c.last_stop-found.ensures, c.in-Nothing.is) c.go_in-in-Nothing.ensures
+returns-in-None c = rw (← c.last_stop-found.ensures, c.in-None.is) c.go_in-in-None.ensures

@@ -2,10 +2,10 @@
 use Rattle.cursor.specs.Stops.{tabbed}
 use Rattle.cursor.proofs.Cursor.tab.Goals as goal
 
-pub returns-in-At : goal.returns-in-At
+pub returns-in-Some : goal.returns-in-Some
 unfolding tabbed
-returns-in-At c = rw (← c.next_stop-found.ensures, c.in-At.is) c.go_in.ensures
+returns-in-Some c = rw (← c.next_stop-found.ensures, c.in-Some.is) c.go_in.ensures
 
-pub returns-in-Nothing : goal.returns-in-Nothing
+pub returns-in-None : goal.returns-in-None
 unfolding tabbed
-returns-in-Nothing c = rw (← c.next_stop-found.ensures, c.in-Nothing.is) c.next_row.ensures
+returns-in-None c = rw (← c.next_stop-found.ensures, c.in-None.is) c.next_row.ensures
