@@ -1,24 +1,28 @@
 // The call for a key.
 #![tactic(auto)]
 
-ghost use Rattle.std.specs.Prelude.{◌≡◌, Bool, cond, not, ◌*◌, ◌%◌, ◌≤◌, ◌<◌, eqb, length, set};
-ghost use Rattle.cells.specs.Range.{within};
+mod codes;
+
+ghost use Rattle.std.specs.Prelude.{◌≡◌, ℕ, cond, not, ◌*◌, ◌%◌, ◌≤◌, ◌<◌, eqb, length, set, MatchResult, ⊤};
 ghost use Rattle.changes.specs.Sets.{set_of};
-ghost use Rattle.cursor.specs.Cursor.{InPlace};
+ghost use Rattle.cursor.specs.Cursor.{cell_of, InPlace};
 ghost use Rattle.fields.specs.Fields.{marks, target};
-ghost use Rattle.reading.specs.Action.{rest};
 ghost use Rattle.terminal.specs.State.{world, Sound};
 ghost use Rattle.terminal.specs.Acts.{tabbed_by, back_tabbed_by, acted};
 ghost use Rattle.terminal.specs.Noted.{differing_rows, noted};
+ghost use Rattle.terminal.specs.Numbers.{answered};
+ghost use Rattle.key.specs.declared.codes.Key.TheVariants.{Text, Enter};
 ghost use Rattle.key.specs.Keys.{key_action, enter, key_refusal, key_left, keyed};
 ghost use Rattle.key.specs.Aim.{aim_refusal};
+ghost use Rattle.key.specs.Codes.{code_of, Sendable, tested, late_refusal};
 ghost use Rattle.key.specs.Pressed.{pressed, edits};
 
 use changes::Changes;
+use codes::Key;
 use cursor::Cursor;
-use terminal::Terminal;
+use terminal::{Refusal, Size, Terminal};
 
-// The number, the bytes written to the reply, and the state afterwards.
+// The number of document 01, as C reads it, the bytes written to the reply, and the state afterwards.
 #[derive(Clone, Copy)]
 pub struct KeyAnswer {
     pub number: u8,
@@ -26,75 +30,76 @@ pub struct KeyAnswer {
     pub state: Terminal,
 }
 
-// Whether a code is a text key's.
-fn is_text(code: u16) -> bool
-    ensures { result ≡ within 32 126 code }
-{
-    32 <= code && code <= 126
-}
-
-// Whether a code is listed: a text key's, or 256 to 273.
-fn is_listed(code: u16) -> bool
-    ensures { (insert : Bool) → eqb (key_action code insert) rest ≡ not result }
-{
-    if is_text(code) {
-        return true;
-    }
-    256 <= code && code <= 273
-}
-
-// The number of a text key with format on.
-fn refuse_text(attrs: &[u8], cell: usize, v: u8) -> u8
+// Refuses a character where no cell takes text, or the field of that cell does not allow it.
+fn refuse_text(attrs: &[u8], cell: usize, v: u8) -> Result<(), Refusal>
     requires { cell < length attrs.now }
-    ensures { result ≡ aim_refusal v (marks attrs.now) (target (marks attrs.now) cell) }
+    ensures { answered result ≡ aim_refusal v (marks attrs.now) (target (marks attrs.now) cell) }
 {
-    let to = fields::find_target(attrs, cell);
-    match to {
-        Some(k) => {
-            let kind = fields::kind_at(attrs, k);
-            if fields::allows(kind, v) { 0 } else { 6 }
-        }
-        None => 5,
+    let Some(k) = fields::find_target(attrs, cell) else {
+        return Err(Refusal::Target);
+    };
+    let kind = fields::kind_at(attrs, k);
+    if fields::allows(kind, v) {
+        Ok(())
+    } else {
+        Err(Refusal::Character)
     }
 }
 
-// The number of a key: 0 where it is to be done.
-fn refuse(t: Terminal, rows: usize, chars: &[u8], attrs: &[u8], code: u16, room: usize) -> u8
-    requires { (24 ≤ rows) × (rows ≤ 96) }
-    ensures { result ≡ key_refusal rows (world t chars.now attrs.now) code room }
+// Refuses text with format on that its target does not take, and ENTER with no room.
+fn refuse(t: Terminal, attrs: &[u8], key: Key, room: usize) -> Result<(), Refusal>
+    requires cell { (t.cursor.row < 96) × (t.cursor.col < 80) × (cell_of t.cursor < length attrs.now) }
+    requires key { Sendable key }
+    ensures { answered result ≡ late_refusal t attrs.now (code_of key) room }
 {
-    if !terminal::is_sized(rows, chars, attrs) {
-        return 1;
+    match key {
+        Key::Text(v) => {
+            if t.format {
+                refuse_text(attrs, t.cursor.cell(), v)
+            } else {
+                Ok(())
+            }
+        }
+        Key::Enter => {
+            if room < 1 {
+                Err(Refusal::Room)
+            } else {
+                Ok(())
+            }
+        }
+        _ => Ok(()),
     }
-    if !t.is_good(rows) {
-        return 2;
-    }
-    let unlisted = !is_listed(code);
+}
+
+// The key of a code, where it is to be done.
+fn admit(
+    t: Terminal,
+    rows: usize,
+    chars: &[u8],
+    attrs: &[u8],
+    code: u16,
+    room: usize,
+) -> Result<Key, Refusal>
+    requires { (24 ≤ rows) × (rows ≤ 96) }
+    ensures number { tested result ≡ key_refusal rows (world t chars.now attrs.now) code room }
+    ensures key { MatchResult result (λ key. (code_of key ≡ code) × Sendable key) (λ _. ⊤) }
+{
+    t.check(rows, chars, attrs)?;
     let barred = t.is_barred();
-    if unlisted {
-        return 3;
-    }
+    let Ok(listed) = Key::try_from(code) else {
+        return Err(Refusal::Key);
+    };
     if barred {
-        return 4;
+        return Err(Refusal::Barred);
     }
-    if is_text(code) {
-        if t.format {
-            return refuse_text(attrs, t.cursor.cell(), (code % 256) as u8);
-        }
-        return 0;
-    }
-    if code == 273 {
-        if room < 1 {
-            return 7;
-        }
-    }
-    0
+    refuse(t, attrs, listed, room)?;
+    Ok(listed)
 }
 
 // Where tab goes: by fields with format on, by tab stops with format off.
 fn tab(t: Terminal, rows: usize, attrs: &[u8]) -> Cursor
-    requires fact_1 { (rows ≤ 96) × (length attrs.now ≡ rows * 80) }
-    requires fact_2 { InPlace rows t.cursor }
+    requires memory { (rows ≤ 96) × (length attrs.now ≡ rows * 80) }
+    requires place { InPlace rows t.cursor }
     ensures { result ≡ tabbed_by rows attrs.now t }
 {
     let c = t.cursor;
@@ -107,8 +112,8 @@ fn tab(t: Terminal, rows: usize, attrs: &[u8]) -> Cursor
 
 // Where back tab goes.
 fn back_tab(t: Terminal, rows: usize, attrs: &[u8]) -> Cursor
-    requires fact_1 { (rows ≤ 96) × (length attrs.now ≡ rows * 80) }
-    requires fact_2 { InPlace rows t.cursor }
+    requires memory { (rows ≤ 96) × (length attrs.now ≡ rows * 80) }
+    requires place { InPlace rows t.cursor }
     ensures { result ≡ back_tabbed_by attrs.now t }
 {
     let c = t.cursor;
@@ -119,129 +124,118 @@ fn back_tab(t: Terminal, rows: usize, attrs: &[u8]) -> Cursor
     c.back_tab(tabs)
 }
 
-// What a key does to the memory, and where the cursor is after it. A code that is not listed does nothing.
-fn strike(t: Terminal, rows: usize, chars: &mut [u8], attrs: &mut [u8], code: u16) -> Cursor
-    requires { (code ≡ 0 → ⊥) → Sound rows (world t chars.old attrs.old) }
-    ensures { world (pressed code result t) chars.new attrs.new ≡ acted rows (key_action code t.insert) (code % 256) (world t chars.old attrs.old) }
+// What a key does to the memory, and where the cursor is after it.
+fn strike(t: Terminal, rows: usize, chars: &mut [u8], attrs: &mut [u8], key: Key) -> Cursor
+    requires sound { Sound rows (world t chars.old attrs.old) }
+    requires key { Sendable key }
+    ensures { world (pressed (code_of key) result t) chars.new attrs.new ≡ acted rows (key_action (code_of key) t.insert) (code_of key % 256) (world t chars.old attrs.old) }
 {
-    if is_text(code) {
-        let c = t.cursor;
-        let v = (code % 256) as u8;
-        return screen::type_char(chars, attrs, rows, c, t.format, t.insert, v);
-    }
-    match code {
-        256 => t.cursor.go_up(),
-        257 => t.cursor.go_down(rows),
-        258 => t.cursor.go_right(rows),
-        259 => t.cursor.go_left(),
-        260 => screen::go_home(attrs, t.format, 3),
-        261 => screen::go_home_down(chars, rows, t.cursor),
-        262 => tab(t, rows, attrs),
-        263 => back_tab(t, rows, attrs),
-        264 => t.clear_display(rows, chars, attrs).cursor,
-        265 => t.clear_line(rows, chars, attrs).cursor,
-        266 => t.cursor,
-        267 => t.delete_char(rows, chars, attrs).cursor,
-        268 => t.cursor.go_in(0),
-        269 => t.cursor.rise(rows, 1),
-        270 => t.cursor.fall(1),
-        271 => t.cursor.rise(rows, 24),
-        272 => t.cursor.fall(24),
-        273 => t.cursor,
-        _ => t.cursor,
+    match key {
+        Key::Text(v) => screen::type_char(chars, attrs, rows, t.cursor, t.format, t.insert, v),
+        Key::Up => t.cursor.go_up(),
+        Key::Down => t.cursor.go_down(rows),
+        Key::Right => t.cursor.go_right(rows),
+        Key::Left => t.cursor.go_left(),
+        Key::Home => screen::go_home(attrs, t.format, 3),
+        Key::HomeDown => screen::go_home_down(chars, rows, t.cursor),
+        Key::Tab => tab(t, rows, attrs),
+        Key::BackTab => back_tab(t, rows, attrs),
+        Key::ClearDisplay => t.clear_display(rows, chars, attrs).cursor,
+        Key::ClearLine => t.clear_line(rows, chars, attrs).cursor,
+        Key::DeleteChar => t.delete_char(rows, chars, attrs).cursor,
+        Key::Column0 => t.cursor.go_in(0),
+        Key::RollUp => t.cursor.rise(rows, 1),
+        Key::RollDown => t.cursor.fall(1),
+        Key::NextPage => t.cursor.rise(rows, 24),
+        Key::PrevPage => t.cursor.fall(24),
+        Key::Insert | Key::Enter => t.cursor,
     }
 }
 
-// The action by which a key writes: text, the two clears and delete character alone do. 0 for every other code.
-fn edit_of(code: u16) -> u8
-    ensures { result ≡ edits code }
+// The action by which a key writes: text, the two clears and delete character alone do.
+fn edit_of(key: Key) -> u8
+    requires { Sendable key }
+    ensures { result ≡ edits (code_of key) }
 {
-    if is_text(code) {
-        return reading::TEXT;
-    }
-    match code {
-        264 => reading::CLEAR_DISPLAY,
-        265 => reading::CLEAR_LINE,
-        267 => reading::DELETE_CHAR,
+    match key {
+        Key::Text(_) => reading::TEXT,
+        Key::ClearDisplay => reading::CLEAR_DISPLAY,
+        Key::ClearLine => reading::CLEAR_LINE,
+        Key::DeleteChar => reading::DELETE_CHAR,
         _ => reading::REST,
     }
 }
 
-// The rows that a key will change. A code that is not listed changes none.
-fn look(t: Terminal, rows: usize, chars: &[u8], attrs: &[u8], code: u16) -> Changes
-    requires { (code ≡ 0 → ⊥) → Sound rows (world t chars.now attrs.now) }
-    ensures { result ≡ set_of (differing_rows rows (world t chars.now attrs.now) (acted rows (key_action code t.insert) (code % 256) (world t chars.now attrs.now))) }
+// A text key's byte.
+fn text_of(key: Key) -> u8
+    ensures { (v : ℕ) → key ≡ Text v → result ≡ v }
 {
-    let a = edit_of(code);
+    match key {
+        Key::Text(v) => v,
+        _ => 0,
+    }
+}
+
+// The rows that a key will change.
+fn look(t: Terminal, rows: usize, chars: &[u8], attrs: &[u8], key: Key) -> Changes
+    requires sound { Sound rows (world t chars.now attrs.now) }
+    requires key { Sendable key }
+    ensures { result ≡ set_of (differing_rows rows (world t chars.now attrs.now) (acted rows (key_action (code_of key) t.insert) (code_of key % 256) (world t chars.now attrs.now))) }
+{
+    let a = edit_of(key);
     if a == reading::REST {
         return Changes::none();
     }
-    let c = t.cursor;
-    noting::look(
-        c,
-        t.format,
-        t.insert,
-        rows,
-        chars,
-        attrs,
-        a,
-        (code % 256) as u8,
-    )
+    let v = text_of(key);
+    noting::look(t.cursor, t.format, t.insert, rows, chars, attrs, a, v)
 }
 
-// Insert mode after a key: 266 changes it over.
-fn switch_insert(code: u16, insert: bool) -> bool
-    ensures { result ≡ cond (eqb code 266) (not insert) insert }
+// Insert mode after a key.
+fn switch_insert(key: Key, insert: bool) -> bool
+    requires { Sendable key }
+    ensures { result ≡ cond (eqb (code_of key) 266) (not insert) insert }
 {
-    if code == 266 { !insert } else { insert }
+    if key == Key::Insert { !insert } else { insert }
 }
 
 // The pending transfer after a key: ENTER asks for a block.
-fn ask(code: u16, pending: u8) -> u8
-    ensures { result ≡ cond (eqb code enter) 4 pending }
+fn ask(key: Key, pending: u8) -> u8
+    requires { Sendable key }
+    ensures { result ≡ cond (eqb (code_of key) enter) 4 pending }
 {
-    if code == 273 { 4 } else { pending }
+    if key == Key::Enter { 4 } else { pending }
 }
 
-// What a key does; code 0 leaves all. The state is put together here alone, so that it is not copied from call to call.
-fn press(mut t: Terminal, rows: usize, chars: &mut [u8], attrs: &mut [u8], code: u16) -> Terminal
-    requires { (code ≡ 0 → ⊥) → Sound rows (world t chars.old attrs.old) }
-    ensures { world result chars.new attrs.new ≡ cond (eqb code 0) (world t chars.old attrs.old) (noted rows (world t chars.old attrs.old) (acted rows (key_action code t.insert) (code % 256) (world t chars.old attrs.old))) }
+// What a key does. The state is put together here alone, so that it is not copied from call to call.
+fn press(mut t: Terminal, rows: usize, chars: &mut [u8], attrs: &mut [u8], key: Key) -> Terminal
+    requires sound { Sound rows (world t chars.old attrs.old) }
+    requires key { Sendable key }
+    ensures { world result chars.new attrs.new ≡ noted rows (world t chars.old attrs.old) (acted rows (key_action (code_of key) t.insert) (code_of key % 256) (world t chars.old attrs.old)) }
 {
-    let joined = t.changes.join(look(t, rows, chars, attrs, code));
-    let moved = strike(t, rows, chars, attrs, code);
+    let joined = t.changes.join(look(t, rows, chars, attrs, key));
+    let moved = strike(t, rows, chars, attrs, key);
     t.cursor = moved;
-    t.insert = switch_insert(code, t.insert);
-    t.pending = ask(code, t.pending);
+    t.insert = switch_insert(key, t.insert);
+    t.pending = ask(key, t.pending);
     t.changes = joined;
     t
 }
 
-// How many bytes a key writes to the reply: ENTER one.
-fn measure(code: u16) -> usize
-    ensures { result ≡ cond (eqb code enter) 1 0 }
+// What a key writes to the reply, ENTER byte 18; how many bytes.
+fn send(key: Key, reply: &mut [u8]) -> usize
+    requires room { key ≡ Enter → 0 < length reply.old }
+    requires key { Sendable key }
+    ensures count { result ≡ cond (eqb (code_of key) enter) 1 0 }
+    ensures reply { reply.new ≡ cond (eqb (code_of key) enter) (set reply.old 0 18) reply.old }
 {
-    if code == 273 { 1 } else { 0 }
-}
-
-// What a key writes to the reply: ENTER byte 18.
-fn send(code: u16, reply: &mut [u8])
-    requires { code ≡ 273 → 0 < length reply.old }
-    ensures { reply.new ≡ cond (eqb code enter) (set reply.old 0 18) reply.old }
-{
-    if code == 273 {
+    if key == Key::Enter {
         reply[0] = 18;
+        return 1;
     }
+    0
 }
 
-// The code that is done: 0, which is not listed and does nothing, where the key is refused.
-fn admit(n: u8, code: u16) -> u16
-    ensures { result ≡ cond (eqb n 0) code 0 }
-{
-    if n == 0 { code } else { 0 }
-}
-
-// A key, in a memory of `rows` rows. A refused key goes the same way, so that the answer is put together in one place.
+// A key, in a memory of `rows` rows.
 pub fn key_on(
     t: Terminal,
     rows: usize,
@@ -253,39 +247,32 @@ pub fn key_on(
     requires { (24 ≤ rows) × (rows ≤ 96) }
     ensures { key_left result chars.new attrs.new reply.new ≡ keyed rows (world t chars.old attrs.old) reply.old code }
 {
-    let n = refuse(t, rows, chars, attrs, code, reply.len());
-    let done = admit(n, code);
-    let next = press(t, rows, chars, attrs, done);
-    send(done, reply);
-    KeyAnswer {
-        number: n,
-        written: measure(done),
-        state: next,
+    match admit(t, rows, chars, attrs, code, reply.len()) {
+        Ok(key) => {
+            let next = press(t, rows, chars, attrs, key);
+            KeyAnswer {
+                number: 0,
+                written: send(key, reply),
+                state: next,
+            }
+        }
+        Err(refusal) => KeyAnswer {
+            number: refusal.number(),
+            written: 0,
+            state: t,
+        },
     }
 }
 
-// A key, in a memory of 96 rows. Takes any state, any buffers and any code; a refusal changes nothing. ENTER writes byte 18 to the reply.
-pub fn key(
+// A key, in a memory of a size. Takes any state, any buffers and any code; a refusal changes nothing. ENTER writes byte 18 to the reply.
+pub fn key<S: Size>(
     t: Terminal,
     chars: &mut [u8],
     attrs: &mut [u8],
     code: u16,
     reply: &mut [u8],
 ) -> KeyAnswer
-    ensures { key_left result chars.new attrs.new reply.new ≡ keyed 96 (world t chars.old attrs.old) reply.old code }
+    ensures { key_left result chars.new attrs.new reply.new ≡ keyed S.size (world t chars.old attrs.old) reply.old code }
 {
-    key_on(t, 96, chars, attrs, code, reply)
-}
-
-// `key` in a memory of 48 rows.
-pub fn key_48(
-    t: Terminal,
-    chars: &mut [u8],
-    attrs: &mut [u8],
-    code: u16,
-    reply: &mut [u8],
-) -> KeyAnswer
-    ensures { key_left result chars.new attrs.new reply.new ≡ keyed 48 (world t chars.old attrs.old) reply.old code }
-{
-    key_on(t, 48, chars, attrs, code, reply)
+    key_on(t, S::rows(), chars, attrs, code, reply)
 }

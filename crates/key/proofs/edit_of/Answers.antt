@@ -1,27 +1,23 @@
--- `key::edit_of` meets its contract: a text key by the test for it, an arm by its code. Assumes nothing.
-use Rattle.std.proofs.Common.{rules, tests}
-use mathlib.Core.Path.{sym, ◌∙◌}
-use borrow.Author.Rules.{rules}
-use borrow.Author.Tests.{ne_eqb}
+-- `key::edit_of` meets its contract: text by its code, the others by their names. Assumes nothing.
 use Rattle.key.specs.Pressed.{edits}
+use Rattle.key.proofs.Named.{writes-not}
 use Rattle.key.proofs.edit_of.Goals as goal
 
-pub returns-then-is_text : goal.returns-then-is_text
+pub returns-in-Text : goal.returns-in-Text
 unfolding edits
-returns-then-is_text c = rw (sym c.is_text.ensures ∙ c.if-is_text.true)
+returns-in-Text c = rw (c.in-Text.is, c.requires _ c.in-Text.is)
 
-pub returns-in-264 : goal.returns-in-264
+pub returns-in-ClearDisplay : goal.returns-in-ClearDisplay
 unfolding edits
-returns-in-264 c = rw c.in-264.is
+returns-in-ClearDisplay c = rw c.in-ClearDisplay.is
 
-pub returns-in-265 : goal.returns-in-265
+pub returns-in-ClearLine : goal.returns-in-ClearLine
 unfolding edits
-returns-in-265 c = rw c.in-265.is
+returns-in-ClearLine c = rw c.in-ClearLine.is
 
-pub returns-in-267 : goal.returns-in-267
+pub returns-in-DeleteChar : goal.returns-in-DeleteChar
 unfolding edits
-returns-in-267 c = rw c.in-267.is
+returns-in-DeleteChar c = rw c.in-DeleteChar.is
 
 pub returns-in_default : goal.returns-in_default
-unfolding edits
-returns-in_default c = search (tests, rules)
+returns-in_default c = writes-not _ c.in_default.not-Text c.in_default.not-ClearDisplay c.in_default.not-ClearLine c.in_default.not-DeleteChar

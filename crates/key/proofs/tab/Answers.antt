@@ -1,5 +1,4 @@
 -- `key::tab` meets its contract: by fields with format on, by tab stops with format off. Assumes nothing.
-use borrow.Author.Rules.{rules}
 use Rattle.terminal.specs.Acts.{tabbed_by}
 use Rattle.key.proofs.tab.Goals as goal
 
