@@ -11,8 +11,7 @@ use Rattle.reading.specs.declared.Number.{Number}
 use Rattle.reading.specs.Action.{ack, left, tab, line_feed, column0, trigger, to_cursor, to_enhance, column_on, column_end, row_on, row_end, window_on, window_end}
 use Rattle.reading.specs.Reading as Reading
 use Rattle.reading.specs.Reading.{listed, action_at, action_of, unbegun, settled, counted, next_reading}
-use Rattle.decisions.specs.declared.Step.{Step}
-use Rattle.decisions.specs.Decisions.{step, in_plain, after_esc, after_group, in_cursor, in_enhance, in_other, decided_at, decided}
+use Rattle.decisions.specs.Decisions.{Step, step, in_plain, after_esc, after_group, in_cursor, in_enhance, in_other, decided_at, decided}
 
 -- what an action of the byte b comes to
 abbrev pub came_to : ℕ → ℕ → Number → Step

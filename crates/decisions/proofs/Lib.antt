@@ -1,3 +1,2 @@
 -- The laws of the decisions.
-pub mod Listed
 pub mod Agreement

@@ -3,12 +3,22 @@
 use Rattle.std.specs.Prelude.{Bool, true, false, cond, ◌||◌, List, [], ◌∷◌, ℕ, ◌+◌, ◌-◌, ◌*◌, ◌%◌, min, eqb, ltb}
 use Rattle.cells.specs.Range.{within}
 use Rattle.reading.specs.declared.Number.{Number}
-use Rattle.reading.specs.Action.{rest, esc, ack, left, tab, line_feed, column0, trigger, text, up, down, right, home, home_all, home_down, back_tab, clear_display, clear_line, insert_row, delete_row, delete_char, insert_on, insert_off, roll_up, roll_down, next_page, prev_page, format_on, format_off, set_tab, clear_tab, clear_tabs, mark1, mark4, mark5, turn2, turn3, turn1, ask_absolute, ask_window, ask_status, ask_block, lock_off, lock_on, soft_reset, hard_reset, to_group, to_set, to_cursor, to_enhance, to_other, plus, minus, digit, column_on, column_end, row_on, row_end, window_on, window_end, stay, enhance}
+use Rattle.reading.specs.Action.{number_of, rest, esc, ack, left, tab, line_feed, column0, trigger, text, up, down, right, home, home_all, home_down, back_tab, clear_display, clear_line, insert_row, delete_row, delete_char, insert_on, insert_off, roll_up, roll_down, next_page, prev_page, format_on, format_off, set_tab, clear_tab, clear_tabs, mark1, mark4, mark5, turn2, turn3, turn1, ask_absolute, ask_window, ask_status, ask_block, lock_off, lock_on, soft_reset, hard_reset, to_group, to_set, to_cursor, to_enhance, to_other, plus, minus, digit, column_on, column_end, row_on, row_end, window_on, window_end, stay, enhance}
 use Rattle.reading.specs.Reading.{listed, clear, unbegun}
-use Rattle.decisions.specs.declared.Step.{Step}
+use Rattle.decisions.specs.declared.Step as Declared
+
+-- what a byte comes to: the number of the action that it asks for, and the reading state and the number after it
+pub record Step : Type 0 where
+  pub action : ℕ
+  pub reading : ℕ
+  pub number : Number
 
 abbrev pub step : ℕ → ℕ → Number → Step
 step action reading number = record { action = action; reading = reading; number = number }
+
+-- a step of the code
+abbrev pub step_of : Declared.Step → Step
+step_of d = step (number_of d.action) d.reading d.number
 
 -- an action, and on to a reading state with the number cleared: each end of a sequence goes to state 0
 abbrev pub goes_to : ℕ → ℕ → Step

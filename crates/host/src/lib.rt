@@ -2,28 +2,30 @@
 #![tactic(auto)]
 
 ghost use Rattle.std.specs.Prelude.{◌≡◌, ◌≤◌, ◌<◌};
+ghost use Rattle.reading.specs.Action.{number_of};
 ghost use Rattle.streams.specs.Streams.{action_for, read_on, stepped_by, host_left, fed_on, fed};
-ghost use Rattle.table.specs.Table.{Tabled};
+ghost use Rattle.table.specs.Table.{numbers_of, Tabled};
 ghost use Rattle.terminal.specs.State.{world, Sound};
 ghost use Rattle.host.specs.Texts.{types_freely};
 
 use changes::Changes;
+use reading::Action;
 use streams::HostAnswer;
 use terminal::{Refusal, Size, Terminal};
 
 // The action of a byte, a sign that is not first settled.
-fn action_for(t: Terminal, table: &[u8; 896], byte: u8) -> u8
+fn action_for(t: Terminal, table: &[[Action; 128]; 7], byte: u8) -> Action
     requires reading { t.reading < 7 }
-    requires table { Tabled table.now }
-    ensures { result ≡ action_for t byte }
+    requires table { Tabled (numbers_of table.now) }
+    ensures { number_of result ≡ action_for t byte }
 {
     t.number.settle(table::action(table, t.reading, byte))
 }
 
 // The reading state and the number after an action.
-fn read_on(mut t: Terminal, a: u8, b: u8) -> Terminal
+fn read_on(mut t: Terminal, a: Action, b: u8) -> Terminal
     requires { t.number.value ≤ 999 }
-    ensures { result ≡ read_on a b t }
+    ensures { result ≡ read_on (number_of a) b t }
 {
     t.number = t.number.count(a, b);
     t.reading = reading::next_reading(a);
@@ -31,9 +33,16 @@ fn read_on(mut t: Terminal, a: u8, b: u8) -> Terminal
 }
 
 // One byte, whose action is `a`.
-fn step(t: Terminal, rows: usize, chars: &mut [u8], attrs: &mut [u8], a: u8, byte: u8) -> Terminal
+fn step(
+    t: Terminal,
+    rows: usize,
+    chars: &mut [u8],
+    attrs: &mut [u8],
+    a: Action,
+    byte: u8,
+) -> Terminal
     requires { Sound rows (world t chars.old attrs.old) }
-    ensures { world result chars.new attrs.new ≡ stepped_by rows a byte (world t chars.old attrs.old) }
+    ensures { world result chars.new attrs.new ≡ stepped_by rows (number_of a) byte (world t chars.old attrs.old) }
 {
     let b = byte % 128;
     read_on(noting::act(t, rows, chars, attrs, a, b), a, b)

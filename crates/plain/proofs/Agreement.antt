@@ -10,8 +10,7 @@ use Rattle.cells.specs.Memory.{written}
 use Rattle.reading.specs.declared.Number.{Number}
 use Rattle.reading.specs.Action.{digit}
 use Rattle.reading.specs.Reading.{counted, next_reading}
-use Rattle.decisions.specs.declared.Step.{Step}
-use Rattle.decisions.specs.Decisions.{decided}
+use Rattle.decisions.specs.Decisions.{Step, decided}
 use Rattle.decisions.proofs.Agreement.{came_to, decided-as}
 use Rattle.terminal.specs.declared.Terminal.{Terminal}
 use Rattle.terminal.specs.State.{World, stated, reread}

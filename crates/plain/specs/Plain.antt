@@ -7,8 +7,7 @@ use Rattle.terminal.specs.State.{World, stated, reread}
 use Rattle.terminal.specs.Acts.{acted}
 use Rattle.terminal.specs.Noted.{noted}
 use Rattle.streams.specs.Streams.{reply_to, Hosted, hosted, host_refusal}
-use Rattle.decisions.specs.declared.Step.{Step}
-use Rattle.decisions.specs.Decisions.{decided}
+use Rattle.decisions.specs.Decisions.{Step, decided}
 
 -- what the decisions make of a byte
 unfoldable pub read_of : Terminal → ℕ → Step

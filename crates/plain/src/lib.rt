@@ -2,6 +2,7 @@
 #![tactic(auto)]
 
 ghost use Rattle.std.specs.Prelude.{◌≡◌, ◌≤◌};
+ghost use Rattle.decisions.specs.Decisions.{step_of};
 ghost use Rattle.streams.specs.Streams.{host_left, fed_on, fed};
 ghost use Rattle.terminal.specs.State.{world, Sound};
 ghost use Rattle.plain.specs.Plain.{stepped_to, plainly_fed};
@@ -13,7 +14,7 @@ use terminal::{Refusal, Size, Terminal};
 // One byte, which the decisions have read: its action, then the reading state and the number after it.
 fn step(t: Terminal, rows: usize, chars: &mut [u8], attrs: &mut [u8], d: Step, byte: u8) -> Terminal
     requires { Sound rows (world t chars.old attrs.old) }
-    ensures { world result chars.new attrs.new ≡ stepped_to rows d byte (world t chars.old attrs.old) }
+    ensures { world result chars.new attrs.new ≡ stepped_to rows (step_of d) byte (world t chars.old attrs.old) }
 {
     let number = d.number;
     let mut u = noting::act(t, rows, chars, attrs, d.action, byte % 128);

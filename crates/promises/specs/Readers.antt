@@ -4,8 +4,7 @@ use Rattle.std.specs.Prelude.{ℕ, ◌+◌, ◌*◌, ◌%◌, ◌<◌, ◌≡◌
 use Rattle.reading.specs.declared.Number.{Number}
 use Rattle.reading.specs.Reading.{settled, counted, next_reading}
 use Rattle.table.specs.Table.{Tabled}
-use Rattle.decisions.specs.declared.Step.{Step}
-use Rattle.decisions.specs.Decisions.{step, decided}
+use Rattle.decisions.specs.Decisions.{Step, step, decided}
 use Rattle.terminal.specs.State.{World}
 use Rattle.streams.specs.declared.HostAnswer.{HostAnswer}
 use Rattle.streams.specs.Streams.{stepped, answer_to, host_left, fed}

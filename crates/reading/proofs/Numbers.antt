@@ -1,10 +1,10 @@
 -- The number being read: `sound_number` and `SoundNumber` say the same, every action keeps a number sound, and every end clears it. Assumes nothing.
 use mathlib.Core.Path.{◌≡◌, refl, ap, ◌∙◌}
-use mathlib.Core.Bool.{Bool, true, false, ◌&&◌, ◌||◌, and-true, and-false, or-false, or-true}
+use mathlib.Core.Bool.{Bool, true, false, ◌&&◌, ◌||◌, and-false, or-false, or-true}
 use Prim.Native.Nat.{ℕ, ◌≤◌, ◌<◌}
 use native.Mathlib.Omega.{arith}
 use lib.Dec.{eqb, leb, ltb}
-use borrow.Author.Tests.{leb-true, ltb-true, eqb-true, eqb-false, not-true, le-leb, lt-leb, lt-ltb, le-ltb, eq-eqb, ne_eqb}
+use borrow.Author.Tests.{leb-true, ltb-true, eqb-true, eqb-false, not-true, le-leb, lt-ltb, eq-eqb, ne_eqb}
 use Rattle.reading.specs.declared.Number.{Number}
 use Rattle.reading.specs.Action.{plus, minus, digit}
 use Rattle.reading.specs.Reading.{unbegun, counted, clear, next_reading, sound_number, SoundNumber}
@@ -42,31 +42,15 @@ module _ (reading : ℕ) (n : Number) (e : sound_number reading n ≡ true) wher
   pub sound-in : SoundNumber reading n
   sound-in = record { value_in = sound-value; sign_in = ltb-true _ _ (and_left _ _ sound-signed); undigited = sound-undigited; cleared = sound-clear }
 
--- ---- what `sound_number` is, by its tests in order
-pub value-above : (reading : ℕ) (n : Number) → 999 < n.value → sound_number reading n ≡ false
-unfolding sound_number
-value-above reading n h = rw (lt-leb _ _ h)
-
-pub sign_above : (reading : ℕ) (n : Number) → 3 ≤ n.sign → sound_number reading n ≡ false
-unfolding sound_number
-sign_above reading n h = rw (le-ltb _ _ h, and-false)
-
+-- ---- what `sound_number` is where its first tests hold
 module _ (reading : ℕ) (n : Number) (v : n.value ≤ 999) (s : n.sign < 3) where
-  pub with-digit : n.digit ≡ true → sound_number reading n ≡ eqb reading 3
+  with-digit : n.digit ≡ true → sound_number reading n ≡ eqb reading 3
   unfolding sound_number unbegun
   with-digit d = rw (le-leb _ _ v, lt-ltb _ _ s, d, and-false, or-false)
 
-  pub value-alone : n.digit ≡ false → (n.value ≡ 0 → ⊥) → sound_number reading n ≡ false
-  unfolding sound_number
-  value-alone d h = rw (le-leb _ _ v, lt-ltb _ _ s, d, ne_eqb _ _ h)
-
-  pub in-cursor : n.digit ≡ false → n.value ≡ 0 → reading ≡ 3 → sound_number reading n ≡ true
+  in-cursor : n.digit ≡ false → n.value ≡ 0 → reading ≡ 3 → sound_number reading n ≡ true
   unfolding sound_number
   in-cursor d h r = rw (le-leb _ _ v, lt-ltb _ _ s, d, eq-eqb _ _ h, eq-eqb _ _ r)
-
-  pub elsewhere : n.digit ≡ false → n.value ≡ 0 → (reading ≡ 3 → ⊥) → sound_number reading n ≡ eqb n.sign 0
-  unfolding sound_number unbegun
-  elsewhere d h r = rw (le-leb _ _ v, lt-ltb _ _ s, d, eq-eqb _ _ h, ne_eqb _ _ r, and-true)
 
 -- a clear number is sound in every reading state
 pub clear-sound : (reading : ℕ) → sound_number reading clear ≡ true

@@ -1,5 +1,7 @@
 -- The actions that a host byte can ask for, numbered. Assumes nothing.
 use Rattle.std.specs.Prelude.{ℕ}
+use Rattle.reading.specs.declared.action.Action.{Action}
+use Rattle.reading.specs.declared.action.Action.TheVariants.{Rest, Esc, Ack, Left, Tab, LineFeed, Column0, Trigger, Text, Up, Down, Right, Home, HomeAll, HomeDown, BackTab, ClearDisplay, ClearLine, InsertRow, DeleteRow, DeleteChar, InsertOn, InsertOff, RollUp, RollDown, NextPage, PrevPage, FormatOn, FormatOff, SetTab, ClearTab, ClearTabs, Mark1, Mark4, Mark5, Turn2, Turn3, Turn1, AskAbsolute, AskWindow, AskStatus, AskBlock, LockOff, LockOn, SoftReset, HardReset, ToGroup, ToSet, ToCursor, ToEnhance, ToOther, Plus, Minus, Digit, ColumnOn, ColumnEnd, RowOn, RowEnd, WindowOn, WindowEnd, Stay, Enhance}
 
 abbrev pub rest : ℕ
 rest = 0
@@ -186,3 +188,68 @@ stay = 60
 
 abbrev pub enhance : ℕ
 enhance = 61
+
+-- the number of an action of the code
+abbrev pub number_of : Action → ℕ
+number_of Rest = rest
+number_of Esc = esc
+number_of Ack = ack
+number_of Left = left
+number_of Tab = tab
+number_of LineFeed = line_feed
+number_of Column0 = column0
+number_of Trigger = trigger
+number_of Text = text
+number_of Up = up
+number_of Down = down
+number_of Right = right
+number_of Home = home
+number_of HomeAll = home_all
+number_of HomeDown = home_down
+number_of BackTab = back_tab
+number_of ClearDisplay = clear_display
+number_of ClearLine = clear_line
+number_of InsertRow = insert_row
+number_of DeleteRow = delete_row
+number_of DeleteChar = delete_char
+number_of InsertOn = insert_on
+number_of InsertOff = insert_off
+number_of RollUp = roll_up
+number_of RollDown = roll_down
+number_of NextPage = next_page
+number_of PrevPage = prev_page
+number_of FormatOn = format_on
+number_of FormatOff = format_off
+number_of SetTab = set_tab
+number_of ClearTab = clear_tab
+number_of ClearTabs = clear_tabs
+number_of Mark1 = mark1
+number_of Mark4 = mark4
+number_of Mark5 = mark5
+number_of Turn2 = turn2
+number_of Turn3 = turn3
+number_of Turn1 = turn1
+number_of AskAbsolute = ask_absolute
+number_of AskWindow = ask_window
+number_of AskStatus = ask_status
+number_of AskBlock = ask_block
+number_of LockOff = lock_off
+number_of LockOn = lock_on
+number_of SoftReset = soft_reset
+number_of HardReset = hard_reset
+number_of ToGroup = to_group
+number_of ToSet = to_set
+number_of ToCursor = to_cursor
+number_of ToEnhance = to_enhance
+number_of ToOther = to_other
+number_of Plus = plus
+number_of Minus = minus
+number_of Digit = digit
+number_of ColumnOn = column_on
+number_of ColumnEnd = column_end
+number_of RowOn = row_on
+number_of RowEnd = row_end
+number_of WindowOn = window_on
+number_of WindowEnd = window_end
+number_of Stay = stay
+number_of Enhance = enhance

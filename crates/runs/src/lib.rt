@@ -4,13 +4,14 @@
 ghost use Rattle.std.specs.Prelude.{◌≡◌, ◌+◌, ◌≤◌, ◌<◌, true, length, get_or, drop};
 ghost use Rattle.cursor.specs.Cursor.{InPlace};
 ghost use Rattle.fields.specs.Fields.{end_of_row};
+ghost use Rattle.reading.specs.Action.{number_of};
 ghost use Rattle.reading.specs.Reading.{clear, settled, counted, next_reading, SoundNumber};
-ghost use Rattle.table.specs.Table.{Tabled};
+ghost use Rattle.table.specs.Table.{numbers_of, Tabled};
 ghost use Rattle.runs.specs.Texts.{is_text, Copied};
 ghost use Rattle.runs.specs.Sequences.{reader, turned, followed};
 
 use cursor::Cursor;
-use reading::Number;
+use reading::{Action, Number};
 
 // How many bytes of text were copied, and whether a cell changed.
 #[derive(Clone, Copy)]
@@ -77,20 +78,16 @@ fn begin_number(c: Cursor, reading: u8, at: usize) -> Reader
 {
     Reader {
         cursor: c,
-        number: Number {
-            sign: 0,
-            digit: false,
-            value: 0,
-        },
+        number: Number::default(),
         reading: reading,
         at: at,
     }
 }
 
 // The reader after a sign: the first begins the number, another ends the sequence.
-fn sign(r: Reader, a: u8, b: u8, next: usize) -> Reader
+fn sign(r: Reader, a: Action, b: u8, next: usize) -> Reader
     requires { r.number.value ≤ 999 }
-    ensures { result ≡ reader r.cursor (counted (settled a r.number) b r.number) (next_reading (settled a r.number)) next }
+    ensures { result ≡ reader r.cursor (counted (settled (number_of a) r.number) b r.number) (next_reading (settled (number_of a) r.number)) next }
 {
     let c = r.cursor;
     let n = r.number;
@@ -104,36 +101,37 @@ fn sign(r: Reader, a: u8, b: u8, next: usize) -> Reader
 }
 
 // The reader after a byte: `a` its action in the table, `b` the byte below 128, `next` the place of the byte after it. A byte of no sequence leaves the reader as it is.
-fn turn(r: Reader, rows: usize, a: u8, b: u8, next: usize) -> Reader
-    requires fact_1 { (rows ≤ 96) × (r.number.value ≤ 999) }
-    requires fact_2 { InPlace rows r.cursor }
-    ensures { result ≡ turned rows a b next r }
+#[tactic(auto, unfolding(crate::specs::Sequences::turned, crate::specs::Sequences::in_sequence, crate::specs::Sequences::addressed, reading::specs::Reading::settled, reading::specs::Reading::counted, reading::specs::Reading::next_reading))]
+fn turn(r: Reader, rows: usize, a: Action, b: u8, next: usize) -> Reader
+    requires bounds { (rows ≤ 96) × (r.number.value ≤ 999) }
+    requires in_place { InPlace rows r.cursor }
+    ensures { result ≡ turned rows (number_of a) b next r }
 {
     let c = r.cursor;
     let n = r.number;
     match a {
-        reading::REST => begin_number(c, 0, next),
-        reading::ESC => begin_number(c, 1, next),
-        reading::TO_GROUP => begin_number(c, 2, next),
-        reading::TO_SET => begin_number(c, 6, next),
-        reading::TO_CURSOR => begin_number(c, 3, next),
-        reading::TO_ENHANCE => begin_number(c, 4, next),
-        reading::TO_OTHER => begin_number(c, 5, next),
-        reading::PLUS => sign(r, reading::PLUS, b, next),
-        reading::MINUS => sign(r, reading::MINUS, b, next),
-        reading::DIGIT => Reader {
+        Action::Rest => begin_number(c, 0, next),
+        Action::Esc => begin_number(c, 1, next),
+        Action::ToGroup => begin_number(c, 2, next),
+        Action::ToSet => begin_number(c, 6, next),
+        Action::ToCursor => begin_number(c, 3, next),
+        Action::ToEnhance => begin_number(c, 4, next),
+        Action::ToOther => begin_number(c, 5, next),
+        Action::Plus => sign(r, Action::Plus, b, next),
+        Action::Minus => sign(r, Action::Minus, b, next),
+        Action::Digit => Reader {
             cursor: c,
-            number: n.count(reading::DIGIT, b),
+            number: n.count(Action::Digit, b),
             reading: 3,
             at: next,
         },
-        reading::COLUMN_ON => begin_number(c.to_column(n.sign, n.value), 3, next),
-        reading::COLUMN_END => begin_number(c.to_column(n.sign, n.value), 0, next),
-        reading::ROW_ON => begin_number(c.to_row(rows, n.sign, n.value), 3, next),
-        reading::ROW_END => begin_number(c.to_row(rows, n.sign, n.value), 0, next),
-        reading::WINDOW_ON => begin_number(c.to_window_row(rows, n.sign, n.value), 3, next),
-        reading::WINDOW_END => begin_number(c.to_window_row(rows, n.sign, n.value), 0, next),
-        reading::STAY => begin_number(c, 5, next),
+        Action::ColumnOn => begin_number(c.to_column(n.sign, n.value), 3, next),
+        Action::ColumnEnd => begin_number(c.to_column(n.sign, n.value), 0, next),
+        Action::RowOn => begin_number(c.to_row(rows, n.sign, n.value), 3, next),
+        Action::RowEnd => begin_number(c.to_row(rows, n.sign, n.value), 0, next),
+        Action::WindowOn => begin_number(c.to_window_row(rows, n.sign, n.value), 3, next),
+        Action::WindowEnd => begin_number(c.to_window_row(rows, n.sign, n.value), 0, next),
+        Action::Stay => begin_number(c, 5, next),
         _ => r,
     }
 }
@@ -144,14 +142,14 @@ pub fn follow(
     n: Number,
     s: u8,
     rows: usize,
-    table: &[u8; 896],
+    table: &[[Action; 128]; 7],
     bytes: &[u8],
     from: usize,
 ) -> Reader
-    requires fact_1 { (rows ≤ 96) × (s < 7) × (from ≤ length bytes.now) }
-    requires fact_2 { SoundNumber s n }
-    requires fact_3 { InPlace rows c }
-    requires fact_4 { Tabled table.now }
+    requires bounds { (rows ≤ 96) × (s < 7) × (from ≤ length bytes.now) }
+    requires sound { SoundNumber s n }
+    requires in_place { InPlace rows c }
+    requires tabled { Tabled (numbers_of table.now) }
     ensures { result ≡ followed rows (drop from bytes.now) (reader c n s from) }
 {
     let mut r = Reader {

@@ -3,9 +3,11 @@
 
 ghost use Rattle.std.specs.Prelude.{◌≡◌, ◌+◌, ◌≤◌, length, leb};
 ghost use Rattle.cells.specs.Memory.{written};
+ghost use Rattle.reading.specs.Action.{number_of};
 ghost use Rattle.terminal.specs.State.{world, Sound};
 ghost use Rattle.streams.specs.Streams.{pending_reply, reply_to};
 
+use reading::Action;
 use terminal::Terminal;
 
 // The number of document 01, as C reads it, the bytes taken, the bytes written to the reply, and the state afterwards.
@@ -31,23 +33,29 @@ fn measure_pending(t: Terminal, rows: usize, chars: &[u8], attrs: &[u8]) -> usiz
 }
 
 // How many bytes an action sends.
-fn measure(t: Terminal, rows: usize, chars: &[u8], attrs: &[u8], a: u8) -> usize
+#[tactic(auto, unfolding(crate::specs::Streams::reply_to))]
+fn measure(t: Terminal, rows: usize, chars: &[u8], attrs: &[u8], a: Action) -> usize
     requires { Sound rows (world t chars.now attrs.now) }
-    ensures { result ≡ length (reply_to a (world t chars.now attrs.now)) }
+    ensures { result ≡ length (reply_to (number_of a) (world t chars.now attrs.now)) }
 {
-    if a == reading::ACK {
-        return 1;
+    match a {
+        Action::Ack => 1,
+        Action::Trigger => measure_pending(t, rows, chars, attrs),
+        _ => 0,
     }
-    if a == reading::TRIGGER {
-        return measure_pending(t, rows, chars, attrs);
-    }
-    0
 }
 
 // Whether what an action sends fits into `room` bytes: room for the longest reply is told without measuring.
-pub fn has_room(t: Terminal, rows: usize, chars: &[u8], attrs: &[u8], a: u8, room: usize) -> bool
+pub fn has_room(
+    t: Terminal,
+    rows: usize,
+    chars: &[u8],
+    attrs: &[u8],
+    a: Action,
+    room: usize,
+) -> bool
     requires { Sound rows (world t chars.now attrs.now) }
-    ensures { result ≡ leb (length (reply_to a (world t chars.now attrs.now))) room }
+    ensures { result ≡ leb (length (reply_to (number_of a) (world t chars.now attrs.now))) room }
 {
     if rows * 160 <= room {
         return true;
@@ -92,26 +100,27 @@ fn send_pending(
 }
 
 // What an action sends, from byte `at` of the reply on; the place past the last byte.
+#[tactic(auto, unfolding(crate::specs::Streams::reply_to))]
 pub fn send(
     t: Terminal,
     rows: usize,
     chars: &[u8],
     attrs: &[u8],
-    a: u8,
+    a: Action,
     reply: &mut [u8],
     at: usize,
 ) -> usize
     requires sound { Sound rows (world t chars.now attrs.now) }
-    requires room { at + length (reply_to a (world t chars.now attrs.now)) ≤ length reply.old }
-    ensures value { result ≡ at + length (reply_to a (world t chars.now attrs.now)) }
-    ensures reply_after { reply.new ≡ written reply.old at (reply_to a (world t chars.now attrs.now)) }
+    requires room { at + length (reply_to (number_of a) (world t chars.now attrs.now)) ≤ length reply.old }
+    ensures value { result ≡ at + length (reply_to (number_of a) (world t chars.now attrs.now)) }
+    ensures reply_after { reply.new ≡ written reply.old at (reply_to (number_of a) (world t chars.now attrs.now)) }
 {
-    if a == reading::ACK {
-        cells::write_at(reply, at, &[6u8; 1]);
-        return at + 1;
+    match a {
+        Action::Ack => {
+            cells::write_at(reply, at, &[6u8; 1]);
+            at + 1
+        }
+        Action::Trigger => send_pending(t, rows, chars, attrs, reply, at),
+        _ => at,
     }
-    if a == reading::TRIGGER {
-        return send_pending(t, rows, chars, attrs, reply, at);
-    }
-    at
 }

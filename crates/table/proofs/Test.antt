@@ -1,46 +1,52 @@
--- A table's test, which antt computes one entry after the other, and what it shows of every entry. Assumes nothing.
-use mathlib.Core.Path.{◌≡◌, ◌∙◌, ap₂, subst, sym}
-use mathlib.Core.Bool.{Bool, true, ◌&&◌}
-use mathlib.Core.List.{List, [], ◌∷◌}
+-- A table whose rows are those of the rules is a table of the rules, and has their action at each entry. Assumes nothing.
+use mathlib.Core.Path.{◌≡◌, ◌∙◌, ap, ap₂, sym}
+use mathlib.Core.List.{List, [], ◌∷◌, map}
 use Prim.Native.Nat.{ℕ, zero, suc, ◌+◌, ◌*◌, ◌/◌, ◌%◌, ◌<◌}
-use native.Mathlib.Nat.{add-zero, zero-add, add-suc, suc-add, le_of_suc-le-suc, not-suc-le-zero}
 use native.Mathlib.Omega.{arith}
-use lib.Dec.{eqb}
-use lib.ListN.{length, get_or}
-use borrow.Author.Tests.{eqb-true}
+use lib.ListN.{get_or}
+use Rattle.std.proofs.Math.ListN.{get_or-map}
+use Rattle.std.proofs.lemmas.List.FromFn.{get_or-map-range_with_len}
+use Rattle.reading.specs.declared.action.Action.{Action}
+use Rattle.reading.specs.declared.action.Action.TheVariants.{Rest}
+use Rattle.reading.specs.Action.{number_of}
 use Rattle.reading.specs.Reading.{action_at}
-use Rattle.reading.proofs.Computed.{and_left, and_right}
-use Rattle.table.specs.Table.{Tabled}
+use Rattle.table.specs.Table.{Tabled, entry_of, numbers_of, row_of}
 
--- ---- the test f passes at each entry of the list and its place, counted from i
-abbrev pub every : (ℕ → ℕ → Bool) → ℕ → List ℕ → Bool
-every f i [] = true
-every f i (x ∷ xs) = f i x && every f (suc i) xs
+module _ (table : List (List Action)) where
+  -- the number at a reading state and a byte
+  at_entry : (s b : ℕ) → s < 7 → b < 128 → get_or (numbers_of table) (s * 128 + b) 0 ≡ entry_of table s b
+  unfolding numbers_of
+  at_entry s b hs hb =
+      let row : (s * 128 + b) / 128 ≡ s = omega arith in
+      let column : (s * 128 + b) % 128 ≡ b = omega arith in
+      get_or-map-range_with_len (λ k. entry_of table (k / 128) (k % 128)) 0 896 (s * 128 + b) (s * 128 + b) 0 (omega arith) (omega arith)
+      ∙ ap₂ (entry_of table) row column
 
-from : (f : ℕ → ℕ → Bool) (xs : List ℕ) (i : ℕ) → every f i xs ≡ true → (k : ℕ) → k < length xs → f (i + k) (get_or xs k 0) ≡ true
-from f [] i t k h = absurd (not-suc-le-zero h)
-from f (x ∷ xs) i t zero h = subst (λ (m : ℕ). f m x ≡ true) (sym (add-zero i)) (and_left (f i x) (every f (suc i) xs) t)
-from f (x ∷ xs) i t (suc k) h =
-    subst (λ (m : ℕ). f m (get_or xs k 0) ≡ true) (suc-add i k ∙ sym (add-suc i k))
-    (from f xs (suc i) (and_right (f i x) (every f (suc i) xs) t) k (le_of_suc-le-suc h))
+  -- a table of the rules has their action
+  pub ruled : Tabled (numbers_of table) → (s b : ℕ) → s < 7 → b < 128 → entry_of table s b ≡ action_at s b
+  ruled t s b hs hb = sym (at_entry s b hs hb) ∙ t.entry s b hs hb
 
--- a list that passes the computed test has the rule's value at each of its places
-pub ruled : (rule : ℕ → ℕ) (xs : List ℕ) → every (λ k x. eqb x (rule k)) 0 xs ≡ true → (k : ℕ) → k < length xs → get_or xs k 0 ≡ rule k
-ruled rule xs t k h =
-    eqb-true (get_or xs k 0) (rule k)
-    (subst (λ (m : ℕ). eqb (get_or xs k 0) (rule m) ≡ true) (zero-add k) (from (λ k x. eqb x (rule k)) xs 0 t k h))
+  -- each row is that of the rules
+  tabled : ((s : ℕ) → s < 7 → map number_of (get_or table s []) ≡ row_of s) → Tabled (numbers_of table)
+  tabled rows =
+      record {
+        entry =
+            λ s b hs hb.
+            at_entry s b hs hb ∙ sym (get_or-map number_of (get_or table s []) b Rest) ∙ ap (λ (row : List ℕ). get_or row b 0) (rows s hs)
+            ∙ get_or-map-range_with_len (action_at s) 0 128 b b 0 hb (omega arith);
+      }
 
--- entry k of a table is for reading state k / 128 and byte k % 128
-abbrev pub rule_at : ℕ → ℕ
-rule_at k = action_at (k / 128) (k % 128)
-
--- a list of 896 entries that passes the computed test is a table of the rules
-pub tabled : {xs : List ℕ} → length xs ≡ 896 → every (λ k x. eqb x (rule_at k)) 0 xs ≡ true → Tabled xs
-tabled {xs} long test =
-    record {
-      entry =
-          λ s b hs hb.
-          let row : (s * 128 + b) / 128 ≡ s = omega arith in
-          let column : (s * 128 + b) % 128 ≡ b = omega arith in
-          ruled rule_at xs test (s * 128 + b) (omega arith) ∙ ap₂ action_at row column;
-    }
+-- seven such rows are a table of the rules
+pub rows_tabled : (p a g c e o z : List Action) → map number_of p ≡ row_of 0 → map number_of a ≡ row_of 1 → map number_of g ≡ row_of 2 → map number_of c ≡ row_of 3
+    → map number_of e ≡ row_of 4 → map number_of o ≡ row_of 5 → map number_of z ≡ row_of 6 → Tabled (numbers_of (p ∷ a ∷ g ∷ c ∷ e ∷ o ∷ z ∷ []))
+rows_tabled p a g c e o z h0 h1 h2 h3 h4 h5 h6 = tabled _ by_row
+  where
+    by_row : (s : ℕ) → s < 7 → map number_of (get_or (p ∷ a ∷ g ∷ c ∷ e ∷ o ∷ z ∷ []) s []) ≡ row_of s
+    by_row zero h = h0
+    by_row (suc zero) h = h1
+    by_row (suc (suc zero)) h = h2
+    by_row (suc (suc (suc zero))) h = h3
+    by_row (suc (suc (suc (suc zero)))) h = h4
+    by_row (suc (suc (suc (suc (suc zero))))) h = h5
+    by_row (suc (suc (suc (suc (suc (suc zero)))))) h = h6
+    by_row (suc (suc (suc (suc (suc (suc (suc s))))))) h = absurd (omega arith)

@@ -2,24 +2,34 @@
 #![tactic(auto)]
 
 ghost use Rattle.std.specs.Prelude.{◌≡◌, ◌<◌};
+ghost use Rattle.reading.specs.Action.{number_of};
 ghost use Rattle.reading.specs.Reading.{action_of};
-ghost use Rattle.table.specs.Table.{Tabled};
+ghost use Rattle.table.specs.Table.{numbers_of, Tabled};
 
 mod entries;
 
+use reading::Action;
+
 // The table, to be lent to `action`: named once for a whole stream, since naming it copies it.
-pub fn actions() -> [u8; 896]
-    ensures { Tabled result }
+pub fn actions() -> [[Action; 128]; 7]
+    ensures { Tabled (numbers_of result) }
 {
-    entries::ACTIONS
+    [
+        entries::plain(),
+        entries::after_esc(),
+        entries::in_group(),
+        entries::in_cursor(),
+        entries::in_enhance(),
+        entries::in_other(),
+        entries::after_set(),
+    ]
 }
 
 // The action of a byte in a reading state.
-pub fn action(table: &[u8; 896], reading: u8, byte: u8) -> u8
-    requires fact_1 { reading < 7 }
-    requires fact_2 { Tabled table.now }
-    ensures { result ≡ action_of reading byte }
+pub fn action(table: &[[Action; 128]; 7], reading: u8, byte: u8) -> Action
+    requires state { reading < 7 }
+    requires tabled { Tabled (numbers_of table.now) }
+    ensures { number_of result ≡ action_of reading byte }
 {
-    let at = (reading as usize) * 128 + (byte % 128) as usize;
-    table[at]
+    table[reading as usize][(byte % 128) as usize]
 }

@@ -23,9 +23,9 @@ filled-whole xs n v e =
 
 module _ (rows : ℕ) (chars attrs : List ℕ) where
   -- both memories filled, under a fresh state
-  pub reset-filled : {t : Terminal} {chars' attrs' : List ℕ} → length chars ≡ rows * 80 → length attrs ≡ rows * 80 → t ≡ fresh_state rows → chars' ≡ filled chars 0 (rows * 80) 32 → attrs' ≡ filled attrs 0 (rows * 80) 0 → world t chars' attrs' ≡ fresh_world rows
+  pub reset-filled : {t : Terminal} {chars' attrs' : List ℕ} → length chars ≡ rows * 80 → length attrs ≡ rows * 80 → t ≡ fresh_state rows → chars' ≡ replicate (length chars) 32 → attrs' ≡ replicate (length attrs) 0 → world t chars' attrs' ≡ fresh_world rows
   unfolding fresh_world
-  reset-filled p q s x y = rw (s, x ∙ filled-whole chars (rows * 80) 32 p, y ∙ filled-whole attrs (rows * 80) 0 q)
+  reset-filled p q s x y = rw (s, x, y, p, q)
 
   -- the two answers
   pub freshened-done : {w : World} → is_sized rows chars attrs ≡ true → w ≡ fresh_world rows → ◌≡◌ {A = Freshened} (record { number = 0; world = w }) (freshened rows chars attrs)

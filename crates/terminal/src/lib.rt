@@ -8,6 +8,7 @@ ghost use Rattle.std.specs.Prelude.{◌≡◌, true, false, cond, not, [], ◌�
 ghost use Rattle.cursor.specs.Cursor.{cell_of, gone_up, gone_down, gone_left, gone_right, in_column, risen, fallen, InPlace};
 ghost use Rattle.cursor.specs.Addressing.{to_column, to_row, to_window_row};
 ghost use Rattle.fields.specs.Fields.{marks};
+ghost use Rattle.reading.specs.Action.{number_of};
 ghost use Rattle.screen.specs.Edits.{homed, homed_down, line_fed, typed, display_cleared, line_cleared, char_deleted, row_inserted, row_deleted};
 ghost use Rattle.terminal.specs.State.{world, stated, placed, stopped, page_of, paged, fresh_state, fresh_world, is_good, is_sized, Sound, barred};
 ghost use Rattle.terminal.specs.Refusals.{◌when◌, first_refusal};
@@ -20,7 +21,7 @@ pub use size::{Rows48, Rows96, Size};
 
 use changes::Changes;
 use cursor::Cursor;
-use reading::Number;
+use reading::{Action, Number};
 
 // The state. `pending` is 0 none, 1 absolute cursor, 2 window cursor, 3 status, 4 block; `reading` is the reading state, 0 to 6; `changes` has the rows that changed.
 #[derive(Clone, Copy)]
@@ -54,56 +55,41 @@ impl Terminal {
             lock: false,
             pending: 0,
             reading: 0,
-            number: Number {
-                sign: 0,
-                digit: false,
-                value: 0,
-            },
+            number: Number::default(),
             tabs: [false; 80],
             changes: changes,
         }
     }
 
     // Whether the state is good.
+    #[tactic(auto, unfolding(crate::specs::State::is_good))]
     pub fn is_good(self, rows: usize) -> bool
         requires { (24 ≤ rows) × (rows ≤ 96) }
         ensures { result ≡ is_good rows self }
     {
-        if !self.cursor.is_placed(rows) {
-            return false;
-        }
-        if 5 <= self.pending {
-            return false;
-        }
-        if 7 <= self.reading {
-            return false;
-        }
-        if !self.number.is_sound(self.reading) {
-            return false;
-        }
-        self.changes.is_good(rows)
+        self.cursor.is_placed(rows)
+            && self.pending < 5
+            && self.reading < 7
+            && self.number.is_sound(self.reading)
+            && self.changes.is_good(rows)
     }
 
     // Whether host lock is on or a transfer is pending.
+    #[tactic(auto, unfolding(crate::specs::State::barred))]
     pub fn is_barred(self) -> bool
         ensures { result ≡ barred self }
     {
-        if self.lock {
-            return true;
-        }
-        self.pending != 0
+        self.lock || self.pending != 0
     }
 }
 
 // Whether both memories have `rows` rows of 80 cells.
+#[tactic(auto, unfolding(crate::specs::State::is_sized))]
 pub fn is_sized(rows: usize, chars: &[u8], attrs: &[u8]) -> bool
     requires { rows ≤ 96 }
     ensures { result ≡ is_sized rows chars.now attrs.now }
 {
-    if chars.len() == rows * 80 {
-        return attrs.len() == rows * 80;
-    }
-    false
+    chars.len() == rows * 80 && attrs.len() == rows * 80
 }
 
 // The tests that calls begin with.
@@ -179,26 +165,27 @@ impl Terminal {
     }
 
     // What an action does that neither edits the memory nor moves the cursor.
-    fn switch(self, a: u8) -> Terminal
+    #[tactic(auto, unfolding(crate::specs::Acts::switched))]
+    fn switch(self, a: Action) -> Terminal
         requires { self.cursor.col < 80 }
-        ensures { result ≡ switched a self }
+        ensures { result ≡ switched (number_of a) self }
     {
         match a {
-            reading::INSERT_ON => self.set_insert(true),
-            reading::INSERT_OFF => self.set_insert(false),
-            reading::FORMAT_ON => self.set_format(true),
-            reading::FORMAT_OFF => self.set_format(false),
-            reading::SET_TAB => self.set_tab(true),
-            reading::CLEAR_TAB => self.set_tab(false),
-            reading::CLEAR_TABS => self.clear_tabs(),
-            reading::ASK_ABSOLUTE => self.ask(1),
-            reading::ASK_WINDOW => self.ask(2),
-            reading::ASK_STATUS => self.ask(3),
-            reading::ASK_BLOCK => self.ask(4),
-            reading::TRIGGER => self.ask(0),
-            reading::LOCK_OFF => self.set_lock(false),
-            reading::LOCK_ON => self.set_lock(true),
-            reading::SOFT_RESET => self.reset_soft(),
+            Action::InsertOn => self.set_insert(true),
+            Action::InsertOff => self.set_insert(false),
+            Action::FormatOn => self.set_format(true),
+            Action::FormatOff => self.set_format(false),
+            Action::SetTab => self.set_tab(true),
+            Action::ClearTab => self.set_tab(false),
+            Action::ClearTabs => self.clear_tabs(),
+            Action::AskAbsolute => self.ask(1),
+            Action::AskWindow => self.ask(2),
+            Action::AskStatus => self.ask(3),
+            Action::AskBlock => self.ask(4),
+            Action::Trigger => self.ask(0),
+            Action::LockOff => self.set_lock(false),
+            Action::LockOn => self.set_lock(true),
+            Action::SoftReset => self.reset_soft(),
             _ => self,
         }
     }
@@ -222,8 +209,8 @@ impl Terminal {
     }
 
     pub fn move_right(mut self, rows: usize) -> Terminal
-        requires fact_1 { rows ≤ 96 }
-        requires fact_2 { InPlace rows self.cursor }
+        requires bounds { rows ≤ 96 }
+        requires in_place { InPlace rows self.cursor }
         ensures { result ≡ placed self (gone_right rows self.cursor) }
     {
         self.cursor = self.cursor.go_right(rows);
@@ -231,8 +218,8 @@ impl Terminal {
     }
 
     pub fn move_left(mut self, rows: usize) -> Terminal
-        requires fact_1 { rows ≤ 96 }
-        requires fact_2 { InPlace rows self.cursor }
+        requires bounds { rows ≤ 96 }
+        requires in_place { InPlace rows self.cursor }
         ensures { result ≡ placed self (gone_left self.cursor) }
     {
         self.cursor = self.cursor.go_left();
@@ -263,8 +250,8 @@ impl Terminal {
     }
 
     pub fn tab(mut self, rows: usize, attrs: &[u8]) -> Terminal
-        requires fact_1 { (rows ≤ 96) × (length attrs.now ≡ rows * 80) }
-        requires fact_2 { InPlace rows self.cursor }
+        requires sized { (rows ≤ 96) × (length attrs.now ≡ rows * 80) }
+        requires in_place { InPlace rows self.cursor }
         ensures { result ≡ placed self (tabbed_by rows attrs.now self) }
     {
         if self.format {
@@ -277,8 +264,8 @@ impl Terminal {
     }
 
     pub fn back_tab(mut self, rows: usize, attrs: &[u8]) -> Terminal
-        requires fact_1 { (rows ≤ 96) × (length attrs.now ≡ rows * 80) }
-        requires fact_2 { InPlace rows self.cursor }
+        requires sized { (rows ≤ 96) × (length attrs.now ≡ rows * 80) }
+        requires in_place { InPlace rows self.cursor }
         ensures { result ≡ placed self (back_tabbed_by attrs.now self) }
     {
         if self.format {
@@ -292,8 +279,8 @@ impl Terminal {
 
     // Roll up by 1, next page by 24.
     pub fn roll_up(mut self, rows: usize, k: usize) -> Terminal
-        requires fact_1 { rows ≤ 96 }
-        requires fact_2 { InPlace rows self.cursor }
+        requires bounds { rows ≤ 96 }
+        requires in_place { InPlace rows self.cursor }
         ensures { result ≡ placed self (risen rows k self.cursor) }
     {
         self.cursor = self.cursor.rise(rows, k);
@@ -318,8 +305,8 @@ impl Terminal {
     }
 
     pub fn address_row(mut self, rows: usize) -> Terminal
-        requires fact_1 { (rows ≤ 96) × (self.number.value ≤ 999) }
-        requires fact_2 { InPlace rows self.cursor }
+        requires bounds { (rows ≤ 96) × (self.number.value ≤ 999) }
+        requires in_place { InPlace rows self.cursor }
         ensures { result ≡ placed self (to_row rows self.number.sign self.number.value self.cursor) }
     {
         self.cursor = self
@@ -329,8 +316,8 @@ impl Terminal {
     }
 
     pub fn address_window(mut self, rows: usize) -> Terminal
-        requires fact_1 { (rows ≤ 96) × (self.number.value ≤ 999) }
-        requires fact_2 { InPlace rows self.cursor }
+        requires bounds { (rows ≤ 96) × (self.number.value ≤ 999) }
+        requires in_place { InPlace rows self.cursor }
         ensures { result ≡ placed self (to_window_row rows self.number.sign self.number.value self.cursor) }
     {
         self.cursor = self
@@ -340,41 +327,49 @@ impl Terminal {
     }
 
     // What an action does that leaves the memory.
-    fn steer(self, rows: usize, chars: &[u8], attrs: &[u8], a: u8) -> Terminal
+    #[tactic(auto, unfolding(crate::specs::Acts::steered))]
+    fn steer(self, rows: usize, chars: &[u8], attrs: &[u8], a: Action) -> Terminal
         requires { Sound rows (world self chars.now attrs.now) }
-        ensures { result ≡ steered rows a (world self chars.now attrs.now) }
+        ensures { result ≡ steered rows (number_of a) (world self chars.now attrs.now) }
     {
         match a {
-            reading::UP => self.move_up(),
-            reading::DOWN => self.move_down(rows),
-            reading::RIGHT => self.move_right(rows),
-            reading::LEFT => self.move_left(rows),
-            reading::COLUMN_0 => self.move_column0(),
-            reading::HOME => self.move_home(attrs, 3),
-            reading::HOME_ALL => self.move_home(attrs, 4),
-            reading::HOME_DOWN => self.move_home_down(rows, chars),
-            reading::TAB => self.tab(rows, attrs),
-            reading::BACK_TAB => self.back_tab(rows, attrs),
-            reading::ROLL_UP => self.roll_up(rows, 1),
-            reading::ROLL_DOWN => self.roll_down(rows, 1),
-            reading::NEXT_PAGE => self.roll_up(rows, 24),
-            reading::PREV_PAGE => self.roll_down(rows, 24),
-            reading::COLUMN_ON | reading::COLUMN_END => self.address_column(),
-            reading::ROW_ON | reading::ROW_END => self.address_row(rows),
-            reading::WINDOW_ON | reading::WINDOW_END => self.address_window(rows),
+            Action::Up => self.move_up(),
+            Action::Down => self.move_down(rows),
+            Action::Right => self.move_right(rows),
+            Action::Left => self.move_left(rows),
+            Action::Column0 => self.move_column0(),
+            Action::Home => self.move_home(attrs, 3),
+            Action::HomeAll => self.move_home(attrs, 4),
+            Action::HomeDown => self.move_home_down(rows, chars),
+            Action::Tab => self.tab(rows, attrs),
+            Action::BackTab => self.back_tab(rows, attrs),
+            Action::RollUp => self.roll_up(rows, 1),
+            Action::RollDown => self.roll_down(rows, 1),
+            Action::NextPage => self.roll_up(rows, 24),
+            Action::PrevPage => self.roll_down(rows, 24),
+            Action::ColumnOn | Action::ColumnEnd => self.address_column(),
+            Action::RowOn | Action::RowEnd => self.address_row(rows),
+            Action::WindowOn | Action::WindowEnd => self.address_window(rows),
             _ => self.switch(a),
         }
     }
 }
 
 // Whether an action sets or turns a mark or sets an enhancement.
-pub fn is_stamp(a: u8) -> bool
-    ensures { result ≡ stamps a }
+#[tactic(auto, unfolding(crate::specs::Acts::stamps))]
+pub fn is_stamp(a: Action) -> bool
+    ensures { result ≡ stamps (number_of a) }
 {
-    if cells::is_within(reading::MARK_1, reading::TURN_1, a) {
-        return true;
-    }
-    a == reading::ENHANCE
+    matches!(
+        a,
+        Action::Mark1
+            | Action::Mark4
+            | Action::Mark5
+            | Action::Turn2
+            | Action::Turn3
+            | Action::Turn1
+            | Action::Enhance
+    )
 }
 
 // Edits of the memory.
@@ -444,19 +439,20 @@ impl Terminal {
     }
 
     // A mark set or turned, or an enhancement set, at the cursor.
-    pub fn stamp(self, rows: usize, attrs: &mut [u8], a: u8, v: u8) -> Terminal
-        requires fact_1 { (rows ≤ 96) × (length attrs.old ≡ rows * 80) }
-        requires fact_2 { InPlace rows self.cursor }
-        ensures { (result ≡ self) × (attrs.new ≡ stamped a v self.format attrs.old (cell_of self.cursor)) }
+    #[tactic(auto, unfolding(crate::specs::Acts::stamped))]
+    pub fn stamp(self, rows: usize, attrs: &mut [u8], a: Action, v: u8) -> Terminal
+        requires sized { (rows ≤ 96) × (length attrs.old ≡ rows * 80) }
+        requires in_place { InPlace rows self.cursor }
+        ensures { (result ≡ self) × (attrs.new ≡ stamped (number_of a) v self.format attrs.old (cell_of self.cursor)) }
     {
         let k = self.cursor.cell();
         match a {
-            reading::MARK_1 => screen::set_mark(attrs, self.format, 1, k),
-            reading::MARK_4 => screen::set_mark(attrs, self.format, 4, k),
-            reading::MARK_5 => screen::set_mark(attrs, self.format, 5, k),
-            reading::TURN_2 => screen::turn_mark(attrs, self.format, 2, k),
-            reading::TURN_3 => screen::turn_mark(attrs, self.format, 3, k),
-            reading::TURN_1 => screen::turn_mark(attrs, self.format, 1, k),
+            Action::Mark1 => screen::set_mark(attrs, self.format, 1, k),
+            Action::Mark4 => screen::set_mark(attrs, self.format, 4, k),
+            Action::Mark5 => screen::set_mark(attrs, self.format, 5, k),
+            Action::Turn2 => screen::turn_mark(attrs, self.format, 2, k),
+            Action::Turn3 => screen::turn_mark(attrs, self.format, 3, k),
+            Action::Turn1 => screen::turn_mark(attrs, self.format, 1, k),
             _ => screen::enhance(attrs, self.format, v % 16, k),
         }
         self
@@ -467,33 +463,41 @@ impl Terminal {
         requires { (rows ≤ 96) × (length chars.old ≡ rows * 80) × (length attrs.old ≡ rows * 80) }
         ensures { world result chars.new attrs.new ≡ fresh_world rows }
     {
-        cells::fill(chars, 0, rows * 80, 32);
-        cells::fill(attrs, 0, rows * 80, 0);
+        chars.fill(32);
+        attrs.fill(0);
         Terminal::fresh_state(rows)
     }
 
     // What an action does; `v` is the byte below 128, or the text key's code.
-    pub fn act(self, rows: usize, chars: &mut [u8], attrs: &mut [u8], a: u8, v: u8) -> Terminal
+    #[tactic(auto, unfolding(crate::specs::Acts::acted))]
+    pub fn act(self, rows: usize, chars: &mut [u8], attrs: &mut [u8], a: Action, v: u8) -> Terminal
         requires { Sound rows (world self chars.old attrs.old) }
-        ensures { world result chars.new attrs.new ≡ acted rows a v (world self chars.old attrs.old) }
+        ensures { world result chars.new attrs.new ≡ acted rows (number_of a) v (world self chars.old attrs.old) }
     {
         match a {
-            reading::TEXT => self.type_text(rows, chars, attrs, v),
-            reading::LINE_FEED => self.feed_line(rows, chars, attrs),
-            reading::CLEAR_DISPLAY => self.clear_display(rows, chars, attrs),
-            reading::CLEAR_LINE => self.clear_line(rows, chars, attrs),
-            reading::INSERT_ROW => self.insert_row(rows, chars, attrs),
-            reading::DELETE_ROW => self.delete_row(rows, chars, attrs),
-            reading::DELETE_CHAR => self.delete_char(rows, chars, attrs),
-            reading::HARD_RESET => Terminal::reset_hard(rows, chars, attrs),
+            Action::Text => self.type_text(rows, chars, attrs, v),
+            Action::LineFeed => self.feed_line(rows, chars, attrs),
+            Action::ClearDisplay => self.clear_display(rows, chars, attrs),
+            Action::ClearLine => self.clear_line(rows, chars, attrs),
+            Action::InsertRow => self.insert_row(rows, chars, attrs),
+            Action::DeleteRow => self.delete_row(rows, chars, attrs),
+            Action::DeleteChar => self.delete_char(rows, chars, attrs),
+            Action::HardReset => Terminal::reset_hard(rows, chars, attrs),
             _ => self.stamp_or_steer(rows, chars, attrs, a, v),
         }
     }
 
     // What an action does that is no edit.
-    fn stamp_or_steer(self, rows: usize, chars: &[u8], attrs: &mut [u8], a: u8, v: u8) -> Terminal
+    fn stamp_or_steer(
+        self,
+        rows: usize,
+        chars: &[u8],
+        attrs: &mut [u8],
+        a: Action,
+        v: u8,
+    ) -> Terminal
         requires { Sound rows (world self chars.now attrs.old) }
-        ensures { world result chars.now attrs.new ≡ cond (stamps a) (world self chars.now (stamped a v self.format attrs.old (cell_of self.cursor))) (stated (world self chars.now attrs.old) (steered rows a (world self chars.now attrs.old))) }
+        ensures { world result chars.now attrs.new ≡ cond (stamps (number_of a)) (world self chars.now (stamped (number_of a) v self.format attrs.old (cell_of self.cursor))) (stated (world self chars.now attrs.old) (steered rows (number_of a) (world self chars.now attrs.old))) }
     {
         if is_stamp(a) {
             return self.stamp(rows, attrs, a, v);

@@ -15,6 +15,7 @@ use mathlib.Core.Path.{◌≡◌, sym, ap, ◌∙◌}
 use Prim.Native.Nat.{ℕ, ◌+◌, ◌-◌, ◌≤◌}
 use Rattle.terminal.specs.State.{world}
 use Rattle.streams.specs.Streams.{reply_to, hosted}
+use Rattle.reading.specs.Action.{number_of}
 use Rattle.host.proofs.feed_on.Goals as goal
 
 pub copy_text-got-requires : goal.copy_text-got-requires
@@ -38,14 +39,14 @@ returns-then-not-has_room c =
     let l = c.loop-i in
     let a = c.args in
     let w = world l.u l.chars l.attrs in
-    ap (λ (n : ℕ). hosted n l.i l.at w l.reply) c.number.ensures ∙ fed_on-stop a.rows a.bytes.now l.i l.at w l.reply (omega (arith, c.loop-i-test)) c.action_for-a.ensures (omega (arith, leb-false (length (reply_to c.action_for-a.result w)) (length l.reply - l.at) (sym c.has_room.ensures ∙ c.if-not-has_room.true), l.invariant.1)) ∙ l.invariant.4
+    ap (λ (n : ℕ). hosted n l.i l.at w l.reply) c.number.ensures ∙ fed_on-stop a.rows a.bytes.now l.i l.at w l.reply (omega (arith, c.loop-i-test)) c.action_for-a.ensures (omega (arith, leb-false (length (reply_to (number_of c.action_for-a.result) w)) (length l.reply - l.at) (sym c.has_room.ensures ∙ c.if-not-has_room.true), l.invariant.1)) ∙ l.invariant.4
 
 pub loop-i-preserved : goal.loop-i-preserved
 loop-i-preserved c =
     let l = c.loop-i in
     let a = c.args in
     let w = world l.u l.chars l.attrs in
-    let fits : l.at + length (reply_to c.action_for-a.result w) ≤ length l.reply = omega (arith, leb-true (length (reply_to c.action_for-a.result w)) (length l.reply - l.at) (sym c.has_room.ensures ∙ c.if-not-has_room.false), l.invariant.1) in (
+    let fits : l.at + length (reply_to (number_of c.action_for-a.result) w) ≤ length l.reply = omega (arith, leb-true (length (reply_to (number_of c.action_for-a.result) w)) (length l.reply - l.at) (sym c.has_room.ensures ∙ c.if-not-has_room.false), l.invariant.1) in (
       omega (arith, c.loop-i-test),
       omega (arith, c.send-at.ensures.value, c.send-at.auto.reply, fits),
       c.send-at.auto.reply ∙ l.invariant.2,

@@ -7,6 +7,7 @@ use Rattle.terminal.specs.declared.Terminal.{Terminal}
 use Rattle.terminal.specs.State.{World, world, stated}
 use Prim.Native.Nat.{◌%◌}
 use mathlib.Core.Path.{ap, ◌∙◌}
+use Rattle.reading.specs.Action.{number_of}
 use Rattle.host.proofs.step.Goals as goal
 
 pub read_on-requires : goal.read_on-requires
@@ -17,4 +18,4 @@ pub returns : goal.returns
 unfolding stepped_by
 returns c =
     let a = c.args in
-    ap (λ (t : Terminal). world t c.act.new.chars c.act.new.attrs) c.read_on.ensures ∙ ap (λ (w : World). stated w (read_on a.a (a.byte % 128) w.state)) c.act.ensures
+    ap (λ (t : Terminal). world t c.act.new.chars c.act.new.attrs) c.read_on.ensures ∙ ap (λ (w : World). stated w (read_on (number_of a.a) (a.byte % 128) w.state)) c.act.ensures

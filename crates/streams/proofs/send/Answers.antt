@@ -1,57 +1,23 @@
--- `streams::send` meets its contract: one byte for ACK, the pending transfer's reply for DC1, else nothing is written. Assumes nothing.
-use Rattle.streams.proofs.Answers.{reply-ack, reply-trigger, reply-none}
-use Rattle.cells.proofs.Splice.{written_none}
-use Rattle.terminal.specs.State.{world}
-use lib.ListN.{length}
+-- `streams::send` meets its contract: an action that is neither ACK nor DC1 sends nothing. Assumes nothing.
+use Rattle.std.proofs.Common.{rules, tests}
+use mathlib.Core.Path.{◌≡◌, refl, ap, sym}
+use mathlib.Core.List.{[]}
 use native.Mathlib.Omega.{arith}
-use mathlib.Core.Path.{refl, sym, ap}
+use lib.ListN.{length}
+use Rattle.cells.proofs.Splice.{written_none}
+use Rattle.reading.specs.declared.action.Action.{Action}
+use Rattle.reading.specs.declared.action.Action.TheVariants.{Ack, Trigger}
+use Rattle.reading.specs.Action.{number_of}
+use Rattle.terminal.specs.State.{World, world}
+use Rattle.streams.specs.Streams.{reply_to}
 use Rattle.streams.proofs.send.Goals as goal
 
-pub write_at-requires : goal.write_at-requires
-write_at-requires c =
-    let a = c.args in
-    let w = world a.t a.chars.now a.attrs.now in
-    let e = ap length (reply-ack a.a w c.if-a-eq-ACK.true) in
-    omega (arith, e)
+none : (w : World) (a : Action) → (a ≡ Ack → ⊥) → (a ≡ Trigger → ⊥) → reply_to (number_of a) w ≡ []
+unfolding reply_to
+none w a p q = search (tests, rules)
 
-pub returns-then-a-eq-ACK-clause-value : goal.returns-then-a-eq-ACK-clause-value
-returns-then-a-eq-ACK-clause-value c =
+pub returns-in_default : goal.returns-in_default
+returns-in_default c =
     let a = c.args in
-    let w = world a.t a.chars.now a.attrs.now in
-    rw (reply-ack a.a w c.if-a-eq-ACK.true) refl
-
-pub returns-then-a-eq-ACK-clause-reply_after : goal.returns-then-a-eq-ACK-clause-reply_after
-returns-then-a-eq-ACK-clause-reply_after c =
-    let a = c.args in
-    let w = world a.t a.chars.now a.attrs.now in
-    rw (reply-ack a.a w c.if-a-eq-ACK.true) c.write_at.ensures
-
-pub send_pending-requires-clause-room : goal.send_pending-requires-clause-room
-send_pending-requires-clause-room c =
-    let a = c.args in
-    let w = world a.t a.chars.now a.attrs.now in
-    rw (← reply-trigger a.a w c.if-a-eq-TRIGGER.true) c.requires.room
-
-pub returns-then-a-eq-TRIGGER-clause-value : goal.returns-then-a-eq-TRIGGER-clause-value
-returns-then-a-eq-TRIGGER-clause-value c =
-    let a = c.args in
-    let w = world a.t a.chars.now a.attrs.now in
-    rw (reply-trigger a.a w c.if-a-eq-TRIGGER.true) c.send_pending.ensures.value
-
-pub returns-then-a-eq-TRIGGER-clause-reply_after : goal.returns-then-a-eq-TRIGGER-clause-reply_after
-returns-then-a-eq-TRIGGER-clause-reply_after c =
-    let a = c.args in
-    let w = world a.t a.chars.now a.attrs.now in
-    rw (reply-trigger a.a w c.if-a-eq-TRIGGER.true) c.send_pending.ensures.reply_after
-
-pub returns-clause-value : goal.returns-clause-value
-returns-clause-value c =
-    let a = c.args in
-    let w = world a.t a.chars.now a.attrs.now in
-    rw (reply-none a.a w c.if-a-eq-ACK.false c.if-a-eq-TRIGGER.false) (omega arith)
-
-pub returns-clause-reply_after : goal.returns-clause-reply_after
-returns-clause-reply_after c =
-    let a = c.args in
-    let w = world a.t a.chars.now a.attrs.now in
-    rw (reply-none a.a w c.if-a-eq-ACK.false c.if-a-eq-TRIGGER.false) (sym (written_none _ _))
+    rw (none (world a.t a.chars.now a.attrs.now) a.a c.in_default.not-Ack c.in_default.not-Trigger)
+    (record { value = omega arith; reply_after = sym (written_none _ _) })
