@@ -449,11 +449,15 @@ module _ {A : Type 0} (p : A → Bool) (d : A) (xs : List A) (lo hi : ℕ) (orde
       sym (last-is p d xs lo hi fits (Some (lo + i))
       (record { low = omega arith; high = omega (arith, part-length, h.0); hit = sym (part-at i h.0) ∙ h.1; none = λ j a b. sym (part-cell j (omega arith) b) ∙ h.2 (j - lo) (omega arith) (omega (arith, part-length)) }))
 
--- ---- and of the whole list
+-- ---- and of the whole list, and of its front
 pub last-in-whole : {A : Type 0} (p : A → Bool) (d : A) (xs : List A) (o : Option ℕ) → LastPlace p d xs o → o ≡ last_in p xs 0 (length xs)
 last-in-whole p d xs None h = sym (last-is p d xs 0 (length xs) (omega arith) None (λ j a b. h j b))
 last-in-whole p d xs (Some i) h =
     sym (last-is p d xs 0 (length xs) (omega arith) (Some i) (record { low = omega arith; high = h.0; hit = h.1; none = λ j a b. h.2 j (omega arith) b }))
+
+pub last-in-front : {A : Type 0} (p : A → Bool) (d : A) (xs : List A) (to : ℕ) → to ≤ length xs → (o : Option ℕ) → LastPlace p d (take to xs) o → o ≡ last_in p xs 0 to
+unfolding last_in
+last-in-front p d xs to h o f = last-in-whole p d (take to xs) o f ∙ ap (last_of p 0) (take-length (take to xs))
 
 -- ---- the answers depend on the tests' values in the range alone
 module _ {A B : Type 0} (p : A → Bool) (d : A) (xs : List A) (q : B → Bool) (e : B) (ys : List B) where

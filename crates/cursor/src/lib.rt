@@ -44,7 +44,7 @@ impl Cursor {
     pub fn go_up(self) -> Cursor
         ensures { result ≡ gone_up self }
     {
-        self.go(less_one(self.row), self.col)
+        self.go(self.row.saturating_sub(1), self.col)
     }
 
     pub fn go_down(self, rows: usize) -> Cursor
@@ -58,7 +58,7 @@ impl Cursor {
         requires { (self.row < 96) × (self.col < 80) }
         ensures { result ≡ gone_left self }
     {
-        self.go_to(less_one(self.cell()))
+        self.go_to(self.cell().saturating_sub(1))
     }
 
     pub fn go_right(self, rows: usize) -> Cursor
@@ -90,11 +90,11 @@ impl Cursor {
 
     // The top and the row rise by `k` or by what remains: roll up by 1, next page by 24.
     pub fn rise(mut self, rows: usize, k: usize) -> Cursor
-        requires fact_1 { rows ≤ 96 }
-        requires fact_2 { InPlace rows self }
+        requires limit { rows ≤ 96 }
+        requires place { InPlace rows self }
         ensures { result ≡ risen rows k self }
     {
-        let d = cells::least(k, rows - 24 - self.top);
+        let d = k.min(rows - 24 - self.top);
         self.row = self.row + d;
         self.top = self.top + d;
         self
@@ -105,7 +105,7 @@ impl Cursor {
         requires { self.top ≤ self.row }
         ensures { result ≡ fallen k self }
     {
-        let d = cells::least(k, self.top);
+        let d = k.min(self.top);
         self.row = self.row - d;
         self.top = self.top - d;
         self
@@ -149,15 +149,12 @@ impl Cursor {
     }
 
     pub fn to_window_row(self, rows: usize, sign: u8, value: usize) -> Cursor
-        requires fact_1 { (rows ≤ 96) × (value ≤ 999) }
-        requires fact_2 { InPlace rows self }
+        requires limits { (rows ≤ 96) × (value ≤ 999) }
+        requires place { InPlace rows self }
         ensures { result ≡ to_window_row rows sign value self }
     {
         if sign == 0 {
-            return self.go(
-                cells::least(self.top + cells::least(value, 23), rows - 1),
-                self.col,
-            );
+            return self.go((self.top + value.min(23)).min(rows - 1), self.col);
         }
         self.to_row(rows, sign, value)
     }
@@ -191,11 +188,7 @@ impl Cursor {
         requires { self.col < 80 }
         ensures { result ≡ back_tabbed stops self }
     {
-        let found = last_stop(stops, self.col);
-        match found {
-            Some(col) => self.go_in(col),
-            None => self.go_in(0),
-        }
+        self.go_in(last_stop(stops, self.col).unwrap_or(0))
     }
 }
 
@@ -203,28 +196,15 @@ fn next_stop(stops: [bool; 80], from: usize) -> Option<usize>
     requires { from ≤ 80 }
     ensures { result ≡ first_in is_stop stops from 80 }
 {
-    let mut i = from;
-    while i < 80 {
-        if stops[i] {
-            return Some(i);
-        }
-        i += 1;
-    }
-    None
+    let at = stops[from..80].iter().position(|stop| *stop);
+    at.map(|k| from + k)
 }
 
 fn last_stop(stops: [bool; 80], to: usize) -> Option<usize>
     requires { to ≤ 80 }
     ensures { result ≡ last_in is_stop stops 0 to }
 {
-    let mut i = to;
-    while 0 < i {
-        i -= 1;
-        if stops[i] {
-            return Some(i);
-        }
-    }
-    None
+    stops[..to].iter().rposition(|stop| *stop)
 }
 
 // The top nearest to `top` that shows the row.
@@ -240,12 +220,6 @@ fn top_for(row: usize, top: usize) -> usize
         }
     }
     top
-}
-
-fn less_one(n: usize) -> usize
-    ensures { result ≡ n - 1 }
-{
-    if 0 < n { n - 1 } else { 0 }
 }
 
 // One more, held below `end`.

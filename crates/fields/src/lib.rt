@@ -127,23 +127,22 @@ pub fn field_end(attrs: &[u8], cell: usize) -> usize
     first_mark(attrs, cell + 1, end, 5).unwrap_or(end)
 }
 
-// How many of the 16 cells from `from` on have a mark 1 to 3. No early exit: the loop becomes vector code.
+// How many of the 16 cells from `from` on have a mark 1 to 3. No early exit and no chain: this loop becomes vector code, which `filter(..).count()` does not.
 fn count_starts(attrs: &[u8], from: usize) -> usize
     requires { from + 16 ≤ length attrs.now }
     ensures { result ≡ count_in (is_in 3) (marks attrs.now) from (from + 16) }
 {
     let mut count = 0;
-    let mut i = 0;
-    while i < 16 {
-        if has_mark(attrs[from + i], 3) {
+    for k in 0..16 {
+        if has_mark(attrs[from + k], 3) {
             count += 1;
         }
-        i += 1;
     }
     count
 }
 
-// Where the unprotected field number `n` starts: 16 cells one by one, then 16 at a time up to those that have it, and these one by one.
+// Where the unprotected field number `n` starts: 16 cells one by one, then 16 at a time up to those that have it, and these one by one. `i` moves on by one
+// and by 16, so the loops count it themselves.
 pub fn nth_field(attrs: &[u8], n: usize) -> Option<usize>
     ensures { result ≡ nth_field (marks attrs.now) n }
 {
@@ -208,7 +207,7 @@ pub fn row_under_text(chars: &[u8], rows: usize) -> usize
     }
 }
 
-// The last non-blank of the cells `from` to `to - 1`.
+// The last non-blank of the cells `from` to `to - 1`. No `rposition` of a part: `from` may lie past `to`.
 pub fn last_text(chars: &[u8], from: usize, to: usize) -> Option<usize>
     requires { to ≤ length chars.now }
     ensures { result ≡ last_in non_blank chars.now from to }

@@ -1,13 +1,15 @@
--- `last_stop` meets its contract: the loop's invariant is `Downto`, that no stop was passed. Assumes nothing.
+-- `last_stop` meets its contract: the last stop of the columns before `to`. Assumes nothing.
+use mathlib.Core.Bool.{false}
 use native.Mathlib.Omega.{arith}
-use Rattle.cells.proofs.Search.{down-next, down-hit, down-end}
+use lib.ListN.{take}
+use Rattle.std.proofs.Common.{rules}
+use Rattle.cells.proofs.Finds.{LastPlace}
+use Rattle.cells.proofs.Search.{last-in-front}
+use Rattle.cursor.specs.Stops.{is_stop}
 use Rattle.cursor.proofs.last_stop.Goals as goal
 
-pub returns-then-stops-i : goal.returns-then-stops-i
-returns-then-stops-i c = down-hit c.loop-i.invariant.1 (omega arith) c.if-stops-i.true (omega arith)
-
-pub loop-i-preserved : goal.loop-i-preserved
-loop-i-preserved c = (omega arith, down-next c.loop-i.invariant.1 (omega arith) c.if-stops-i.false (omega arith))
-
 pub returns : goal.returns
-returns c = down-end c.loop-i.invariant.1 (omega arith)
+returns c =
+    let a = c.args in
+    let h : LastPlace is_stop false (take a.to a.stops) c.rposition.result = search rules in
+    last-in-front is_stop false a.stops a.to (omega arith) c.rposition.result h

@@ -7,16 +7,16 @@ use Rattle.fields.proofs.Scans.{has_mark, count-marks}
 use Rattle.fields.proofs.count_starts.Goals as goal
 use Rattle.fields.proofs.count_starts.Goals.{then-has_mark, else-has_mark}
 
-pub loop-i-init : goal.loop-i-init
-loop-i-init c = (omega arith, omega arith, counted_start (omega arith) refl)
+pub loop-k-init : goal.loop-k-init
+loop-k-init c = (omega arith, counted_start (omega arith) refl)
 
-pub loop-i-preserved : goal.loop-i-preserved
-loop-i-preserved c =
-    let l = c.loop-i in
+pub loop-k-preserved : goal.loop-k-preserved
+loop-k-preserved c =
+    let l = c.loop-k in
     elim c.if-has_mark.branch [
-      | then-has_mark w ↦ (omega arith, omega arith, counted-hit l.invariant.2 (omega arith) (omega arith) (cc) (omega arith) (omega arith))
-      | else-has_mark w ↦ (omega arith, omega arith, counted-miss l.invariant.2 (omega arith) (omega arith) (cc) (omega arith) (omega arith))
+      | then-has_mark w ↦ (omega arith, counted-hit l.invariant.1 (omega arith) (omega arith) (cc) (omega arith) (omega arith))
+      | else-has_mark w ↦ (omega arith, counted-miss l.invariant.1 (omega arith) (omega arith) (cc) (omega arith) (omega arith))
     ]
 
 pub returns : goal.returns
-returns c = c.loop-i.invariant.2.same ∙ ap (count_in (has_mark 3) _ _) (omega arith) ∙ count-marks _ _ _ _
+returns c = c.loop-k.invariant.1.same ∙ ap (count_in (has_mark 3) _ _) (omega arith) ∙ count-marks _ _ _ _

@@ -2,10 +2,6 @@
 use Rattle.cursor.specs.Stops.{back_tabbed}
 use Rattle.cursor.proofs.Cursor.back_tab.Goals as goal
 
-pub returns-in-Some : goal.returns-in-Some
+pub returns : goal.returns
 unfolding back_tabbed
-returns-in-Some c = rw (← c.last_stop-found.ensures, c.in-Some.is) c.go_in.ensures
-
-pub returns-in-None : goal.returns-in-None
-unfolding back_tabbed
-returns-in-None c = rw (← c.last_stop-found.ensures, c.in-None.is) c.go_in-in-None.ensures
+returns c = rw (← c.last_stop.ensures, ← c.unwrap_or.ensures) c.go_in.ensures

@@ -1,4 +1,4 @@
--- `Cursor::fall` meets its contract, by what `least` gives. Assumes nothing.
+-- `Cursor::fall` meets its contract, by what `min` gives. Assumes nothing.
 use Rattle.cursor.specs.Cursor.{fallen}
 use Rattle.cursor.proofs.Cursor.fall.Goals as goal
 

@@ -1,4 +1,4 @@
--- `Cursor::rise` meets its contract, by what `least` gives. Assumes nothing.
+-- `Cursor::rise` meets its contract, by what `min` gives. Assumes nothing.
 use Rattle.cursor.specs.Cursor.{risen}
 use Rattle.cursor.proofs.Cursor.rise.Goals as goal
 
