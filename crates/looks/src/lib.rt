@@ -63,8 +63,7 @@ fn look_up(chars: &[u8], attrs: &[u8], rows: usize, at: usize, end: u8) -> Chang
             found = found.behind(compare::row_copy_differs(chars, attrs, k));
         }
     }
-    while 0 < k {
-        k -= 80;
+    for _above in (0..at).rev() {
         found = found.behind(false);
     }
     found
@@ -88,7 +87,10 @@ fn look_down(chars: &[u8], attrs: &[u8], rows: usize, at: usize) -> Changes
     requires { (length chars.now ≡ rows * 80) × (length attrs.now ≡ rows * 80) × (rows ≤ 96) × (at < rows) }
     ensures { result ≡ set_of (differing_both rows chars.now attrs.now (moved_down chars.now (at * 80) 32) (moved_down attrs.now (at * 80) 0)) }
 {
-    gather(rows, |r| compare::row_down_differs(chars, attrs, rows, at, r))
+    gather(
+        rows,
+        |r| compare::row_down_differs(chars, attrs, rows, at, r),
+    )
 }
 
 // All cells from cell `k` on become blank with attribute 0.
@@ -96,7 +98,10 @@ pub fn look_clear(chars: &[u8], attrs: &[u8], rows: usize, k: usize) -> Changes
     requires { (length chars.now ≡ rows * 80) × (length attrs.now ≡ rows * 80) × (rows ≤ 96) }
     ensures { result ≡ set_of (differing_both rows chars.now attrs.now (filled chars.now k (rows * 80) 32) (filled attrs.now k (rows * 80) 0)) }
 {
-    gather(rows, |r| compare::row_clear_differs(chars, attrs, rows, k, r))
+    gather(
+        rows,
+        |r| compare::row_clear_differs(chars, attrs, rows, k, r),
+    )
 }
 
 // The unprotected cells from cell `k` on become blank without enhancement.
@@ -104,7 +109,10 @@ fn look_wipe(chars: &[u8], attrs: &[u8], rows: usize, k: usize) -> Changes
     requires { (length chars.now ≡ rows * 80) × (length attrs.now ≡ rows * 80) × (rows ≤ 96) }
     ensures { result ≡ set_of (differing_both rows chars.now attrs.now (changed_where chars.now k (unprotected (marks attrs.now)) (λ v. 32)) (changed_where attrs.now k (unprotected (marks attrs.now)) stripped)) }
 {
-    gather(rows, |r| compare::row_wipe_differs(chars, attrs, rows, k, r))
+    gather(
+        rows,
+        |r| compare::row_wipe_differs(chars, attrs, rows, k, r),
+    )
 }
 
 // ---- the rows that an edit of a page changes

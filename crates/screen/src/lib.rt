@@ -151,8 +151,8 @@ fn type_at(
     v: u8,
     k: usize,
 ) -> Cursor
-    requires fact_1 { Whole rows (page cursor chars.old attrs.now) }
-    requires fact_2 { k < rows * 80 }
+    requires whole { Whole rows (page cursor chars.old attrs.now) }
+    requires inside { k < rows * 80 }
     ensures { page result chars.new attrs.now ≡ typed_at_cell insert v k (page cursor chars.old attrs.now) }
 {
     let end = fields::field_end(attrs, k);

@@ -1,7 +1,6 @@
 -- `looks::enhance_differs` meets its contract, by the format. Assumes nothing.
 use mathlib.Core.Path.{sym}
 use native.Mathlib.Omega.{arith}
-use borrow.Author.Rules.{rules}
 use Rattle.changes.proofs.Differing.{differs-same}
 use Rattle.screen.specs.Edits.{enhanced}
 use Rattle.compare.proofs.Rows.{set-differs}

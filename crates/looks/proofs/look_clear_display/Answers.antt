@@ -1,7 +1,6 @@
 -- `looks::look_clear_display` meets its contract, by the format. Assumes nothing.
 use Prim.Native.Nat.{ℕ, ◌*◌}
 use mathlib.Core.Path.{sym, ap, ap₂, ◌∙◌}
-use borrow.Author.Rules.{rules}
 use Rattle.cells.specs.Memory.{filled, changed_where}
 use Rattle.changes.specs.Sets.{set_of}
 use Rattle.changes.specs.Differing.{differing_both}

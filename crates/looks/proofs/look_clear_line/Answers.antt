@@ -4,7 +4,6 @@ use mathlib.Core.Path.{ap₂, ◌∙◌}
 use mathlib.Core.Bool.{◌||◌}
 use mathlib.Core.List.{List}
 use native.Mathlib.Omega.{arith}
-use borrow.Author.Rules.{rules}
 use Rattle.cells.specs.Memory.{filled}
 use Rattle.changes.specs.Differing.{differs}
 use Rattle.changes.proofs.Differing.{both-row, no_row}

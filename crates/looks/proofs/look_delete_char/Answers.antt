@@ -1,7 +1,6 @@
 -- `looks::look_delete_char` meets its contract, by the format and the cursor's cell. Assumes nothing.
 use Prim.Native.Nat.{◌+◌, ◌*◌, ◌/◌, ◌≤◌}
 use native.Mathlib.Omega.{arith}
-use borrow.Author.Rules.{rules}
 use Rattle.changes.proofs.Differing.{chars-row, no_row}
 use Rattle.cursor.proofs.Place.{row_in}
 use Rattle.fields.specs.Fields.{marks}

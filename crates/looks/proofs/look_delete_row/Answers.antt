@@ -3,7 +3,6 @@ use Prim.Native.Nat.{ℕ, ◌-◌, ◌*◌}
 use mathlib.Core.Path.{ap, ◌∙◌}
 use mathlib.Core.List.{List}
 use lib.Seq.{set-get_or}
-use borrow.Author.Rules.{rules}
 use Rattle.cells.specs.Memory.{moved_up}
 use Rattle.changes.specs.Sets.{set_of}
 use Rattle.changes.specs.Differing.{differing_both}

@@ -2,7 +2,6 @@
 use Prim.Native.Nat.{◌-◌, max}
 use mathlib.Core.Path.{◌≡◌, ◌∙◌}
 use native.Mathlib.Omega.{arith}
-use borrow.Author.Rules.{rules}
 use Rattle.changes.proofs.Differing.{told_none, told_more}
 use Rattle.compare.proofs.Moves.{both-last}
 use Rattle.looks.proofs.look_ends.Goals as goal

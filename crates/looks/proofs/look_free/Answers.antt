@@ -2,7 +2,6 @@
 use Prim.Native.Nat.{ℕ, ◌+◌, ◌*◌, ◌/◌}
 use mathlib.Core.Path.{sym, ap, ◌∙◌}
 use native.Mathlib.Omega.{arith}
-use borrow.Author.Rules.{rules}
 use Rattle.changes.specs.Sets.{set_of}
 use Rattle.changes.specs.Differing.{differing_both}
 use Rattle.changes.proofs.Differing.{chars-row}

@@ -2,7 +2,6 @@
 use Prim.Native.Nat.{◌/◌, ◌<◌}
 use mathlib.Core.Path.{sym, ◌∙◌}
 use native.Mathlib.Omega.{arith}
-use borrow.Author.Rules.{rules}
 use Rattle.changes.proofs.Differing.{chars-row, no_row}
 use Rattle.fields.specs.Fields.{marks, field_end}
 use Rattle.fields.proofs.Fields.{field-ends}

@@ -1,5 +1,4 @@
 -- `looks::look_insert_row` meets its contract, by the format. Assumes nothing.
-use borrow.Author.Rules.{rules}
 use Rattle.changes.proofs.Differing.{no_row}
 use Rattle.screen.specs.Edits.{row_inserted}
 use Rattle.looks.specs.Looks.{changed}

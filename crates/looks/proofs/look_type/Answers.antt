@@ -1,5 +1,4 @@
 -- `looks::look_type` meets its contract, by the format. Assumes nothing.
-use borrow.Author.Rules.{rules}
 use Rattle.screen.specs.Edits.{typed}
 use Rattle.looks.proofs.look_type.Goals as goal
 

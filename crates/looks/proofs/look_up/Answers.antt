@@ -1,16 +1,9 @@
 -- `looks::look_up` meets its contract: the invariant of its loops is `Told`, with the row's number from its first cell. Assumes nothing.
-use Prim.Native.Nat.{ℕ, ◌-◌, ◌*◌, ◌/◌, ◌≤◌, ◌<◌, max}
+use Prim.Native.Nat.{◌-◌, ◌/◌}
 use mathlib.Core.Path.{◌≡◌, ◌∙◌}
-use mathlib.Core.Logic.{⊎_elim}
-use mathlib.Core.List.{List}
 use native.Mathlib.Omega.{arith}
-use lib.ListN.{set}
-use borrow.Author.Rules.{rules}
-use Rattle.cells.specs.Memory.{moved_up}
-use Rattle.changes.specs.declared.Changes.{Changes}
-use Rattle.changes.proofs.Differing.{Told, told_more, told-all}
+use Rattle.changes.proofs.Differing.{told_more, told-all}
 use Rattle.compare.proofs.Moves.{both-above, both-copy, both_first}
-use Rattle.looks.proofs.look_up.Invariants.{Upto}
 use Rattle.looks.proofs.look_up.Goals as goal
 use Rattle.looks.proofs.look_up.Goals.{else-loop-k-2-test, then-loop-k-2-test+then-k-top}
 
@@ -64,15 +57,16 @@ loop-k-preserved c =
       )
     ]
 
-pub loop-k-3-preserved : goal.loop-k-3-preserved
-loop-k-3-preserved c =
-    let l = c.loop-k-3 in
+pub loop-above-init : goal.loop-above-init
+loop-above-init c = let e : c.loop-k.k / 80 ≡ c.args.at = omega arith in rw e at c.loop-k.invariant.2.1
+
+pub loop-above-preserved : goal.loop-above-preserved
+loop-above-preserved c =
+    let r = c.loop-above._above in
     let a = c.args in
-    let p = c.requires in (
-      omega arith,
-      (
-        omega arith,
-        told_more {q = (l.k - 80) / 80} l.invariant.1.1 (omega arith) (omega arith) (omega arith) c.behind-found-in-loop-k-3.ensures
-            (both-above a.rows ((l.k - 80) / 80) a.at a.chars.now a.attrs.now (omega arith) p.0 p.1 p.3 a.end (omega arith)),
-      ),
-    )
+    let p = c.requires in
+    told_more {q = r - 1} c.loop-above.invariant (omega arith) (omega arith) (omega arith) c.behind-found-in-loop-above.ensures
+    (both-above a.rows (r - 1) a.at a.chars.now a.attrs.now (omega arith) p.0 p.1 p.3 a.end (omega arith))
+
+pub returns : goal.returns
+returns c = told-all c.loop-above.invariant (omega arith)

@@ -1,15 +1,11 @@
 -- `looks::look_up` meets its contract: the invariant of its loops is `Told`, with the row's number from its first cell. Assumes nothing.
 use Prim.Native.Nat.{ℕ, ◌-◌, ◌*◌, ◌/◌, ◌≤◌, ◌<◌, max}
-use mathlib.Core.Path.{◌≡◌, ◌∙◌}
-use mathlib.Core.Logic.{⊎_elim}
+use mathlib.Core.Path.{◌≡◌}
 use mathlib.Core.List.{List}
-use native.Mathlib.Omega.{arith}
 use lib.ListN.{set}
-use borrow.Author.Rules.{rules}
 use Rattle.cells.specs.Memory.{moved_up}
 use Rattle.changes.specs.declared.Changes.{Changes}
-use Rattle.changes.proofs.Differing.{Told, told_more, told-all}
-use Rattle.compare.proofs.Moves.{both-above, both-copy, both_first}
+use Rattle.changes.proofs.Differing.{Told}
 use Rattle.looks.proofs.look_up.Given as goal
 
 -- the rows from the one that begins at cell k on are told
@@ -28,8 +24,5 @@ invariant-loop-k l = (l.k ≤ max l.at (l.rows - 2) * 80) × (l.top ≤ l.k) × 
 abbrev pub decreases-loop-k : goal.decreases-loop-k
 decreases-loop-k l = l.k
 
-abbrev pub invariant-loop-k-3 : goal.invariant-loop-k-3
-invariant-loop-k-3 l = (l.k ≤ l.top) × Upto l.chars l.attrs l.rows l.at l.end l.found l.k
-
-abbrev pub decreases-loop-k-3 : goal.decreases-loop-k-3
-decreases-loop-k-3 l = l.k
+abbrev pub invariant-loop-above : goal.invariant-loop-above
+invariant-loop-above l = Told l.rows l.chars l.attrs (moved_up (set l.chars (l.rows * 80 - 1) l.end) (l.at * 80) 32) (moved_up l.attrs (l.at * 80) 0) l._above l.found

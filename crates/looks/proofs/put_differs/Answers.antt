@@ -1,6 +1,5 @@
 -- `looks::put_differs` meets its contract, by cases on insert mode. Assumes nothing.
 use native.Mathlib.Omega.{arith}
-use borrow.Author.Rules.{rules}
 use Rattle.screen.specs.Edits.{put}
 use Rattle.compare.proofs.Rows.{set-differs}
 use Rattle.looks.proofs.put_differs.Goals as goal

@@ -1,6 +1,5 @@
 -- `looks::turn_differs` meets its contract, by the mark that is there. Assumes nothing.
 use mathlib.Core.Path.{sym}
-use borrow.Author.Rules.{rules}
 use Rattle.changes.proofs.Differing.{differs-same}
 use Rattle.screen.specs.Edits.{mark_turned}
 use Rattle.looks.proofs.turn_differs.Goals as goal

@@ -9,9 +9,9 @@ pub kind_at-kind-requires : goal.kind_at-kind-requires
 unfolding typed_in
 kind_at-kind-requires c = target-inside c.args.attrs.now c.cell.result _ (omega arith) (sym c.find_target-to.ensures ∙ c.in-Some.is)
 
-pub type_at-requires-clause-fact_2 : goal.type_at-requires-clause-fact_2
+pub type_at-requires-clause-inside : goal.type_at-requires-clause-inside
 unfolding typed_in
-type_at-requires-clause-fact_2 c = let w = c.requires in omega (arith, w.attrs_long, target-inside c.args.attrs.now c.cell.result _ (omega arith) (sym c.find_target-to.ensures ∙ c.in-Some.is))
+type_at-requires-clause-inside c = let w = c.requires in omega (arith, w.attrs_long, target-inside c.args.attrs.now c.cell.result _ (omega arith) (sym c.find_target-to.ensures ∙ c.in-Some.is))
 
 pub returns-then-allows : goal.returns-then-allows
 unfolding typed_in
