@@ -2,6 +2,8 @@
 #![tactic(auto)]
 
 ghost use Rattle.std.specs.Prelude.{◌≡◌, ◌*◌, ◌≤◌, length};
+ghost use Rattle.terminal.specs.State.{fresh_state};
+ghost use Rattle.sessions.specs.Session.{next as Session·next};
 
 use printing::Output;
 use terminal::Terminal;
@@ -36,6 +38,8 @@ impl<'a> Machine<'a> {
         reply: &'a mut [u8],
     ) -> Machine<'a>
         requires { (24 ≤ rows) × (rows ≤ 96) × (length reply.old ≡ rows * 160) }
+        ensures fresh { result.state ≡ fresh_state rows }
+        ensures begun { result.number ≡ 0 }
     {
         Machine {
             rows,
@@ -49,13 +53,17 @@ impl<'a> Machine<'a> {
     }
 
     // The call, and its line; fewer than 85 bytes are a short one.
-    pub fn run(&mut self, out: &mut Output, bytes: &[u8]) {
+    pub fn run(&mut self, out: &mut Output, bytes: &[u8])
+        ensures { self.new.number ≡ Session·next self.old.number }
+    {
         let number = self.number;
-        self.number = sessions::next(number);
         match self.make(bytes) {
-            Made::Answer(answer, size) => write!(out, "{number} {answer} {size}\n"),
+            Made::Answer(answer, size) => {
+                print_numbers(out, [number, answer as u64, size as u64]);
+                out.text(b"\n");
+            }
             Made::Text(size) => {
-                write!(out, "{number} 0 {size}");
+                print_numbers(out, [number, 0, size as u64]);
                 if let Some(text) = self.reply.get(..size) {
                     out.text(b" |");
                     out.text(text);
@@ -64,6 +72,7 @@ impl<'a> Machine<'a> {
                 out.text(b"\n");
             }
         }
+        self.number = sessions::next(number);
     }
 
     // The end line: the cursor's row and column, and the window's top.
@@ -143,5 +152,17 @@ impl<'a> Machine<'a> {
             0 => Made::Text(read.written),
             answer => Made::Answer(answer, read.written),
         }
+    }
+}
+
+// Three numbers in decimal, a space between two. By `write!` a call takes half as long again.
+fn print_numbers(out: &mut Output, numbers: [u64; 3]) {
+    for (i, n) in numbers.iter().enumerate() {
+        if 0 < i {
+            out.text(b" ");
+        }
+        let mut digits = [0u8; 20];
+        let size = io::decimal(*n, &mut digits);
+        out.text(&digits[..size]);
     }
 }

@@ -1,7 +1,9 @@
 // A chunk of a file, run on the terminal and told: session records, or a part of a host stream.
 #![tactic(auto)]
 
-ghost use Rattle.std.specs.Prelude.{◌≤◌};
+ghost use Rattle.std.specs.Prelude.{◌≡◌, ◌&&◌, ◌==◌, ◌≤◌, true, length};
+ghost use Rattle.terminal.specs.State.{fresh_state};
+ghost use Rattle.report.specs.Reports.{reported};
 
 use printing::Output;
 use report::ReportAnswer;
@@ -31,6 +33,8 @@ impl<'a> Machine<'a> {
         room: &'a mut [u8],
     ) -> Machine<'a>
         requires { (24 ≤ rows) × (rows ≤ 96) }
+        ensures fresh { result.state ≡ fresh_state rows }
+        ensures begun { result.number ≡ 0 }
     {
         Machine {
             rows,
@@ -130,7 +134,10 @@ impl<'a> Machine<'a> {
     }
 
     // The rows that changed are reported, and none is set.
-    pub fn report(&mut self) -> ReportAnswer {
+    pub fn report(&mut self) -> ReportAnswer
+        ensures told { result ≡ reported self.old.rows self.old.state }
+        ensures state_after { self.new.state ≡ (reported self.old.rows self.old.state).state }
+    {
         let told = report::report_on(self.state, self.rows);
         self.state = told.state;
         told
@@ -168,13 +175,17 @@ pub struct ReplyLine {
 
 impl ReplyLine {
     // The start of the line.
-    pub fn begin(out: &mut Output, number: u64) -> ReplyLine {
+    pub fn begin(out: &mut Output, number: u64) -> ReplyLine
+        ensures { result.is_empty ≡ true }
+    {
         listing::print_reply(out, number);
         ReplyLine { is_empty: true }
     }
 
     // Some bytes more.
-    pub fn add(&mut self, out: &mut Output, reply: &[u8]) {
+    pub fn add(&mut self, out: &mut Output, reply: &[u8])
+        ensures { self.new.is_empty ≡ (self.old.is_empty && length reply.now == 0) }
+    {
         listing::print_part(out, reply, self.is_empty);
         self.is_empty = self.is_empty && reply.is_empty();
     }

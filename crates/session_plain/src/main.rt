@@ -1,4 +1,4 @@
-// The program `session` with the word `plain`, run on all examples: it prints what it prints without `plain`.
+// The program `session` with the word `plain`, run on all examples: it prints what it prints without `plain`. A crate is run on one list of words, so each list has its own.
 #![tactic(auto)]
 
 fn main(rt: HostRuntime) {

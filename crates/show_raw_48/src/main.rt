@@ -1,4 +1,4 @@
-// The program `show` with the words `48 raw`, run on files.
+// The program `show` with the words `48 raw`, run on files. A crate is run on one list of words, so each list has its own.
 #![tactic(auto)]
 
 fn main(rt: HostRuntime) {
