@@ -80,8 +80,8 @@ pub same-byte :
 unfolding edits acted
 same-byte rows b w =
     let P : Key → Type 0 =
-      λ k. Sendable k → ((v : ℕ) → k ≡ Text v → b ≡ v) → (edits (code_of k) ≡ Action.rest → ⊥)
-      → acted rows (edits (code_of k)) b w ≡ acted rows (edits (code_of k)) (code_of k % 256) w in
+    λ k. Sendable k → ((v : ℕ) → k ≡ Text v → b ≡ v) → (edits (code_of k) ≡ Action.rest → ⊥)
+    → acted rows (edits (code_of k)) b w ≡ acted rows (edits (code_of k)) (code_of k % 256) w in
     by-name P
     (λ _ _ n. absurd (n refl)) (λ _ _ n. absurd (n refl)) (λ _ _ n. absurd (n refl)) (λ _ _ n. absurd (n refl)) (λ _ _ n. absurd (n refl)) (λ _ _ n. absurd (n refl)) (λ _ _ n. absurd (n refl))
     (λ _ _ n. absurd (n refl)) (λ _ _ _. refl) (λ _ _ _. refl) (λ _ _ n. absurd (n refl)) (λ _ _ _. refl) (λ _ _ n. absurd (n refl)) (λ _ _ n. absurd (n refl)) (λ _ _ n. absurd (n refl))

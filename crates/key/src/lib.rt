@@ -3,10 +3,11 @@
 
 mod codes;
 
-ghost use Rattle.std.specs.Prelude.{◌≡◌, ℕ, cond, not, ◌*◌, ◌%◌, ◌≤◌, ◌<◌, eqb, length, set, MatchResult, ⊤};
+ghost use Rattle.std.specs.Prelude.{◌≡◌, ℕ, cond, not, ◌*◌, ◌%◌, ◌≤◌, ◌<◌, eqb, length, set, MatchOption, MatchResult, ⊤};
 ghost use Rattle.changes.specs.Sets.{set_of};
 ghost use Rattle.cursor.specs.Cursor.{cell_of, InPlace};
 ghost use Rattle.fields.specs.Fields.{marks, target};
+ghost use Rattle.reading.specs.Action.{number_of, rest};
 ghost use Rattle.terminal.specs.State.{world, Sound};
 ghost use Rattle.terminal.specs.Acts.{tabbed_by, back_tabbed_by, acted};
 ghost use Rattle.terminal.specs.Noted.{differing_rows, noted};
@@ -20,6 +21,7 @@ ghost use Rattle.key.specs.Pressed.{pressed, edits};
 use changes::Changes;
 use codes::Key;
 use cursor::Cursor;
+use reading::Action;
 use terminal::{Refusal, Size, Terminal};
 
 // The number of document 01, as C reads it, the bytes written to the reply, and the state afterwards.
@@ -60,13 +62,7 @@ fn refuse(t: Terminal, attrs: &[u8], key: Key, room: usize) -> Result<(), Refusa
                 Ok(())
             }
         }
-        Key::Enter => {
-            if room < 1 {
-                Err(Refusal::Room)
-            } else {
-                Ok(())
-            }
-        }
+        Key::Enter => { if room < 1 { Err(Refusal::Room) } else { Ok(()) } }
         _ => Ok(()),
     }
 }
@@ -153,16 +149,16 @@ fn strike(t: Terminal, rows: usize, chars: &mut [u8], attrs: &mut [u8], key: Key
 }
 
 // The action by which a key writes: text, the two clears and delete character alone do.
-fn edit_of(key: Key) -> u8
+fn edit_of(key: Key) -> Option<Action>
     requires { Sendable key }
-    ensures { result ≡ edits (code_of key) }
+    ensures { MatchOption result (edits (code_of key) ≡ rest) (λ a. (number_of a ≡ edits (code_of key)) × (edits (code_of key) ≡ rest → ⊥)) }
 {
     match key {
-        Key::Text(_) => reading::TEXT,
-        Key::ClearDisplay => reading::CLEAR_DISPLAY,
-        Key::ClearLine => reading::CLEAR_LINE,
-        Key::DeleteChar => reading::DELETE_CHAR,
-        _ => reading::REST,
+        Key::Text(_) => Some(Action::Text),
+        Key::ClearDisplay => Some(Action::ClearDisplay),
+        Key::ClearLine => Some(Action::ClearLine),
+        Key::DeleteChar => Some(Action::DeleteChar),
+        _ => None,
     }
 }
 
@@ -182,10 +178,9 @@ fn look(t: Terminal, rows: usize, chars: &[u8], attrs: &[u8], key: Key) -> Chang
     requires key { Sendable key }
     ensures { result ≡ set_of (differing_rows rows (world t chars.now attrs.now) (acted rows (key_action (code_of key) t.insert) (code_of key % 256) (world t chars.now attrs.now))) }
 {
-    let a = edit_of(key);
-    if a == reading::REST {
+    let Some(a) = edit_of(key) else {
         return Changes::none();
-    }
+    };
     let v = text_of(key);
     noting::look(t.cursor, t.format, t.insert, rows, chars, attrs, a, v)
 }

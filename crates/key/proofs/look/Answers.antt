@@ -13,10 +13,10 @@ use Rattle.key.proofs.Named.{same-byte}
 use Rattle.key.proofs.Pressed.{edits-action, leaves-rows}
 use Rattle.key.proofs.look.Goals as goal
 
-pub returns-then-a-eq-REST : goal.returns-then-a-eq-REST
-returns-then-a-eq-REST c =
+pub returns-in_default : goal.returns-in_default
+returns-in_default c =
     let a = c.args in
-    leaves-rows a.rows (code_of a.key) _ (world a.t a.chars.now a.attrs.now) (c.none.ensures a.rows) (sym c.edit_of-a.ensures ∙ c.if-a-eq-REST.true)
+    leaves-rows a.rows (code_of a.key) _ (world a.t a.chars.now a.attrs.now) (c.none.ensures a.rows) c.in_default.ensures
 
 pub look-requires : goal.look-requires
 look-requires c = whole c.requires.sound
@@ -25,8 +25,8 @@ pub returns : goal.returns
 returns c =
     let a = c.args in
     let w = world a.t a.chars.now a.attrs.now in
-    let made = c.edit_of-a.ensures in
-    let writes : edits (code_of a.key) ≡ rest → ⊥ = λ e. c.if-a-eq-REST.false (made ∙ e) in
+    let made = c.in-Some.ensures.0 in
+    let writes : edits (code_of a.key) ≡ rest → ⊥ = c.in-Some.ensures.1 in
     c.look.ensures a.t refl refl refl
     ∙ ap (λ (k : ℕ). set_of (differing_rows a.rows w (acted a.rows k c.text_of-v.result w))) made
     ∙ ap (λ (u : World). set_of (differing_rows a.rows w u)) (same-byte a.rows c.text_of-v.result w a.key c.requires.key c.text_of-v.ensures writes)
