@@ -211,18 +211,10 @@ fn last_stop(stops: [bool; 80], to: usize) -> Option<usize>
 fn top_for(row: usize, top: usize) -> usize
     ensures { result ≡ top_for row top }
 {
-    if row < top {
-        return row;
-    }
-    if 23 < row {
-        if top < row - 23 {
-            return row - 23;
-        }
-    }
-    top
+    top.max(row.saturating_sub(23)).min(row)
 }
 
-// One more, held below `end`.
+// One more, held below `end`. By a test, since the largest number has no next.
 fn one_more(n: usize, end: usize) -> usize
     requires { 0 < end }
     ensures { result ≡ min (n + 1) (end - 1) }
@@ -258,6 +250,5 @@ fn hold(x: i64, end: usize) -> usize
     if x < 0 {
         return 0;
     }
-    let n = x as usize;
-    if n < end { n } else { end - 1 }
+    (x as usize).min(end - 1)
 }

@@ -1,5 +1,4 @@
 -- `hold` meets its contract: a number below 0 is held to 0, and any other is the same number unsigned. Assumes nothing.
-use native.Mathlib.Omega.{arith}
 use mathlib.Core.Path.{sym}
 use mir.Syntax.{w64}
 use mir.Facts.{to_z-of_z}
@@ -9,16 +8,8 @@ use Rattle.cursor.proofs.hold.Goals as goal
 pub returns-then-x-lt0 : goal.returns-then-x-lt0
 returns-then-x-lt0 c = sym (held_below _ _ (rw (to_z-of_z c.ranges.x) at c.if-x-lt0.true))
 
-pub returns-then-n-end : goal.returns-then-n-end
-returns-then-n-end c =
+pub returns : goal.returns
+returns c =
     let q = to_z-of_z {w = w64} c.ranges.x in
     let e = held-from c.args.end c.args.x (rw q at c.if-x-lt0.false) in
-    let h = rw q at c.if-n-end.true in
-    rw (q, e) (omega arith)
-
-pub returns-else-n-end : goal.returns-else-n-end
-returns-else-n-end c =
-    let q = to_z-of_z {w = w64} c.ranges.x in
-    let e = held-from c.args.end c.args.x (rw q at c.if-x-lt0.false) in
-    let h = rw q at c.if-n-end.false in
-    rw e (omega arith)
+    rw e (rw q at c.min.ensures)
