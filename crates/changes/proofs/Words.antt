@@ -102,9 +102,6 @@ joined-none c d n e =
 low_fits : (low b : ℕ) → b < 2 → low % 2 ^ 63 * 2 + b < 2 ^ 64
 low_fits low b h = omega arith
 
-pub high_fits : (high low : ℕ) → low < 2 ^ 64 → high % 2 ^ 63 * 2 + low / 2 ^ 63 < 2 ^ 64
-high_fits high low h = let q : low / 2 ^ 63 < 2 = omega arith in omega arith
-
 twice : (high low b : ℕ) → high < 2 ^ 32 → b + 2 * (high * 2 ^ 64 + low) ≡ (high % 2 ^ 63 * 2 + low / 2 ^ 63) * 2 ^ 64 + (low % 2 ^ 63 * 2 + b)
 twice high low b h = let m : high % 2 ^ 63 ≡ high = omega arith in rw m (omega arith)
 

@@ -82,7 +82,7 @@ fn send_field(chars: &[u8], attrs: &[u8], from: usize, reply: &mut [u8], at: usi
     end
 }
 
-// All fields of marks 1 to 4, from byte `at` of the reply on; the place past the last byte.
+// All fields of marks 1 to 4, from byte `at` of the reply on; the place past the last byte. A `while`, as in `measure_fields`.
 fn send_fields(chars: &[u8], attrs: &[u8], reply: &mut [u8], at: usize) -> usize
     requires memory { (length chars.now ≡ length attrs.now) × (length attrs.now % 80 ≡ 0) }
     requires room { at + length (fields_reply chars.now attrs.now) ≤ length reply.old }
