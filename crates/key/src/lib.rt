@@ -201,19 +201,18 @@ fn ask(key: Key, pending: u8) -> u8
     if key == Key::Enter { 4 } else { pending }
 }
 
-// What a key does. The state is put together here alone, so that it is not copied from call to call.
-fn press(mut t: Terminal, rows: usize, chars: &mut [u8], attrs: &mut [u8], key: Key) -> Terminal
-    requires sound { Sound rows (world t chars.old attrs.old) }
+// What a key does. The state is changed in its place, so that it is not copied from call to call.
+fn press(t: &mut Terminal, rows: usize, chars: &mut [u8], attrs: &mut [u8], key: Key)
+    requires sound { Sound rows (world t.old chars.old attrs.old) }
     requires key { Sendable key }
-    ensures { world result chars.new attrs.new ≡ noted rows (world t chars.old attrs.old) (acted rows (key_action (code_of key) t.insert) (code_of key % 256) (world t chars.old attrs.old)) }
+    ensures { world t.new chars.new attrs.new ≡ noted rows (world t.old chars.old attrs.old) (acted rows (key_action (code_of key) t.old.insert) (code_of key % 256) (world t.old chars.old attrs.old)) }
 {
-    let joined = t.changes.join(look(t, rows, chars, attrs, key));
-    let moved = strike(t, rows, chars, attrs, key);
+    let joined = t.changes.join(look(*t, rows, chars, attrs, key));
+    let moved = strike(*t, rows, chars, attrs, key);
     t.cursor = moved;
     t.insert = switch_insert(key, t.insert);
     t.pending = ask(key, t.pending);
     t.changes = joined;
-    t
 }
 
 // What a key writes to the reply, ENTER byte 18; how many bytes.
@@ -230,7 +229,7 @@ fn send(key: Key, reply: &mut [u8]) -> usize
     0
 }
 
-// A key, in a memory of `rows` rows.
+// A key, in a memory of `rows` rows. The answer begins as what a refusal leaves, so that the state is copied once.
 pub fn key_on(
     t: Terminal,
     rows: usize,
@@ -242,21 +241,19 @@ pub fn key_on(
     requires { (24 ≤ rows) × (rows ≤ 96) }
     ensures { key_left result chars.new attrs.new reply.new ≡ keyed rows (world t chars.old attrs.old) reply.old code }
 {
+    let mut answer = KeyAnswer {
+        number: 0,
+        written: 0,
+        state: t,
+    };
     match admit(t, rows, chars, attrs, code, reply.len()) {
         Ok(key) => {
-            let next = press(t, rows, chars, attrs, key);
-            KeyAnswer {
-                number: 0,
-                written: send(key, reply),
-                state: next,
-            }
+            press(&mut answer.state, rows, chars, attrs, key);
+            answer.written = send(key, reply);
         }
-        Err(refusal) => KeyAnswer {
-            number: refusal.number(),
-            written: 0,
-            state: t,
-        },
+        Err(refusal) => answer.number = refusal.number(),
     }
+    answer
 }
 
 // A key, in a memory of a size. Takes any state, any buffers and any code; a refusal changes nothing. ENTER writes byte 18 to the reply.
