@@ -13,7 +13,7 @@ use Rattle.fields.proofs.Fields.{field-ends}
 use Rattle.fields.proofs.Starts.{nth-open}
 use Rattle.fields.proofs.Numbers.{holds-unprotected, field-holds}
 use Rattle.screen.proofs.Frame.{Only, Rest, only-chars, only_none, only-more, rest_out, end_fits}
-use Rattle.terminal.specs.State.{World, world, page_of}
+use Rattle.terminal.specs.State.{World, page_of}
 use Rattle.terminal.specs.Protected.{Protects}
 use Rattle.terminal.proofs.Kept.{whole}
 use Rattle.terminal.proofs.Protected.{only-protects}

@@ -141,7 +141,13 @@ pub fn post_on(
 }
 
 // A post, in a memory of a size. Takes any state, any buffers, any field number and any text; a refusal changes nothing.
-pub fn post<S: Size>(t: Terminal, chars: &mut [u8], attrs: &[u8], field: usize, text: &[u8]) -> PostAnswer
+pub fn post<S: Size>(
+    t: Terminal,
+    chars: &mut [u8],
+    attrs: &[u8],
+    field: usize,
+    text: &[u8],
+) -> PostAnswer
     ensures { post_left result chars.new attrs.now ≡ posted_to S.size (world t chars.old attrs.now) field text.now }
 {
     post_on(t, S::rows(), chars, attrs, field, text)

@@ -271,5 +271,13 @@ pub fn run<S: Size>(t: Terminal, chars: &mut [u8], attrs: &mut [u8], bytes: &[u8
 {
     let rows = S::rows();
     let mut reply = [0u8; 15360];
-    run_on(t, rows, chars, attrs, bytes, &mut reply[..rows * 160], false)
+    run_on(
+        t,
+        rows,
+        chars,
+        attrs,
+        bytes,
+        &mut reply[..rows * 160],
+        false,
+    )
 }

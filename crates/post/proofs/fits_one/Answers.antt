@@ -1,6 +1,5 @@
 -- `fits_one` meets its contract: the two tests in the definition's order. Assumes nothing.
 use mathlib.Core.Path.{sym, ◌∙◌}
-use borrow.Author.Rules.{rules}
 use Rattle.post.specs.Posts.{fits}
 use Rattle.post.proofs.fits_one.Goals as goal
 

@@ -3,7 +3,6 @@ use Prim.Native.Nat.{ℕ, ◌/◌}
 use mathlib.Core.Path.{ap, sym, ◌∙◌}
 use mathlib.Core.List.{List}
 use native.Mathlib.Omega.{arith}
-use borrow.Author.Rules.{rules}
 use borrow.Author.Tests.{ltb-false, lt-ltb, le-ltb}
 use Rattle.post.proofs.Fits.{all_fit-all}
 use Rattle.cells.specs.Memory.{posted}

@@ -1,5 +1,4 @@
 -- `post_if` meets its contract: the number, and the state with the post's row joined to its own. Assumes nothing.
-use borrow.Author.Rules.{rules}
 use Rattle.terminal.proofs.Refusals.{not-done}
 use Rattle.post.proofs.Kept.{entered-noted, entered-left}
 use Rattle.post.proofs.post_if.Goals as goal

@@ -1,5 +1,4 @@
 -- `post_on` meets its contract: a post that names no reader may write every field. Assumes nothing.
-use borrow.Author.Rules.{rules}
 use Rattle.terminal.specs.Refusals.{first_refusal}
 use Rattle.post.specs.Posts.{post_refusal, posted_to}
 use Rattle.post.specs.Field.{refusal_if, posted_if}

@@ -1,6 +1,5 @@
 -- `post_to` meets its contract: the tests in the definition's order. Assumes nothing.
 use mathlib.Core.Path.{◌≡◌, refl, sym, ◌∙◌}
-use borrow.Author.Rules.{rules}
 use borrow.Author.Tests.{not-true, not-false}
 use Rattle.std.proofs.lemmas.Result.{err_from_is_err_and}
 use Rattle.terminal.specs.State.{world, is_good, is_sized}

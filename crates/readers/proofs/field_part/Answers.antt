@@ -1,6 +1,5 @@
 -- `field_part` meets its contract: the field lies in the memory. Assumes nothing.
 use native.Mathlib.Omega.{arith}
-use borrow.Author.Rules.{rules}
 use Rattle.readers.proofs.Readings.{ends_in, part-is}
 use Rattle.readers.proofs.field_part.Goals as goal
 

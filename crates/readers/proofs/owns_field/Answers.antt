@@ -1,8 +1,7 @@
 -- `owns_field` meets its contract: a reader, a field of the table, its byte. Assumes nothing.
 use mathlib.Core.Path.{sym, ◌∙◌}
 use native.Mathlib.Omega.{arith}
-use borrow.Author.Rules.{rules}
-use borrow.Author.Tests.{lt-ltb, le-ltb, not-true, not-false}
+use borrow.Author.Tests.{lt-ltb, le-ltb}
 use Rattle.readers.specs.Owners.{owns}
 use Rattle.readers.proofs.owns_field.Goals as goal
 

@@ -1,8 +1,6 @@
 -- `post_as_on` meets its contract: by the table, and then the post by one who owns the field or does not. Assumes nothing.
 use mathlib.Core.Path.{ap, sym, ◌∙◌}
 use mathlib.Core.Bool.{Bool}
-use borrow.Author.Rules.{rules}
-use borrow.Author.Tests.{not-true, not-false}
 use Rattle.terminal.specs.State.{world}
 use Rattle.post.specs.Field.{posted_if}
 use Rattle.readers.proofs.Kept.{untabled, tabled}

@@ -3,8 +3,6 @@ use mathlib.Core.Path.{ap, ap₂, sym, ◌∙◌}
 use mathlib.Core.Bool.{Bool}
 use mathlib.Core.List.{List}
 use Prim.Native.Nat.{ℕ}
-use borrow.Author.Rules.{rules}
-use borrow.Author.Tests.{not-true, not-false}
 use Rattle.std.specs.Prelude.{Some}
 use Rattle.fields.specs.Fields.{marks}
 use Rattle.replies.specs.Replies.{field_text}

@@ -1,7 +1,6 @@
 -- `refuse_early` meets its contract: the table's test beside the sizes', whose number it has, then the others in the definition's order. Assumes nothing.
 use mathlib.Core.Path.{◌≡◌, sym, ◌∙◌}
 use mathlib.Core.Bool.{and-true, and-false}
-use borrow.Author.Rules.{rules}
 use Rattle.std.proofs.lemmas.Result.{err_from_is_err_and}
 use Rattle.terminal.specs.State.{is_good, is_sized}
 use Rattle.terminal.specs.Refusals.{first_refusal}

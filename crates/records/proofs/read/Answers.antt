@@ -1,7 +1,6 @@
 -- `records::read` meets its contract: each return by the tests before it. Assumes nothing.
 use mathlib.Core.Path.{refl, sym, ◌∙◌}
 use native.Mathlib.Omega.{arith}
-use borrow.Author.Rules.{rules}
 use Rattle.records.proofs.Forms.{short, long, oversize, unblank, unfit, fits, host-fits, key-fits, post-fits, none-fits, data-part}
 use Rattle.records.proofs.read.Goals as goal
 

@@ -3,10 +3,9 @@ use Prim.Native.Nat.{ℕ}
 use mathlib.Core.Path.{ap, sym, ◌∙◌}
 use mathlib.Core.List.{List}
 use native.Mathlib.Omega.{arith}
-use borrow.Author.Rules.{rules}
 use Rattle.terminal.specs.State.{world}
 use Rattle.terminal.proofs.Refusals.{not-done}
-use Rattle.records.specs.Records.{number_of, data_of, host_part, key_part, post_part}
+use Rattle.records.specs.Records.{data_of, host_part, key_part, post_part}
 use Rattle.records.proofs.Running.{other-form, host-record, key-record, post-record}
 use Rattle.records.proofs.run_from_on.Goals as goal
 

@@ -4,7 +4,6 @@ use mathlib.Core.Path.{ap, ◌∙◌}
 use mathlib.Core.List.{List}
 use native.Mathlib.Omega.{arith}
 use lib.ListN.{drop, length-drop}
-use borrow.Author.Rules.{rules}
 use Rattle.terminal.specs.State.{world}
 use Rattle.streams.specs.Streams.{Hosted, fed}
 use Rattle.records.specs.Records.{part, host_part}

@@ -1,6 +1,5 @@
 -- `records::run_key` meets its contract: what the call of `key` leaves. Assumes nothing.
 use mathlib.Core.Path.{ap}
-use borrow.Author.Rules.{rules}
 use Rattle.key.specs.Keys.{Keyed}
 use Rattle.records.specs.Records.{part, key_part}
 use Rattle.records.proofs.run_key.Goals as goal

@@ -1,9 +1,7 @@
 -- `records::run_on` meets its contract: a call that the reply buffer stopped is followed by another, and any other ends the record. Assumes nothing.
-use Prim.Native.Nat.{◌-◌, ◌*◌, ◌≤◌, ◌<◌}
+use Prim.Native.Nat.{◌-◌}
 use mathlib.Core.Path.{◌≡◌, refl, sym, ◌∙◌}
 use native.Mathlib.Omega.{arith}
-use borrow.Author.Rules.{rules}
-use lib.ListN.{length}
 use Rattle.terminal.specs.State.{world}
 use Rattle.records.proofs.Whole.{whole-start, call-written, whole-turn, whole-last, whole-none}
 use Rattle.records.proofs.run_on.Goals as goal

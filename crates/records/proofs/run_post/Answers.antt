@@ -1,6 +1,5 @@
 -- `records::run_post` meets its contract: what the call of `post` leaves. Assumes nothing.
 use mathlib.Core.Path.{ap}
-use borrow.Author.Rules.{rules}
 use Rattle.post.specs.Posts.{Posted}
 use Rattle.records.specs.Records.{part, post_part}
 use Rattle.records.proofs.run_post.Goals as goal

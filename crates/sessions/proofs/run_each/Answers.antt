@@ -1,14 +1,9 @@
 -- `sessions::run_each` meets its contract: a record's line, then those of the others. Assumes nothing.
-use Prim.Native.Nat.{ℕ, ◌+◌}
-use mathlib.Core.Path.{◌≡◌, refl, sym, ap, ◌∙◌}
-use mathlib.Core.List.{List}
+use mathlib.Core.Path.{◌≡◌, refl, ap, ◌∙◌}
 use native.Mathlib.Omega.{arith}
 use lib.ListN.{length, length-append}
-use borrow.Author.Rules.{rules}
 use Rattle.std.specs.Slice.Iter.{chunks_rest, chunks_size}
 use Rattle.terminal.specs.State.{world}
-use Rattle.sessions.specs.Session.{split}
-use Rattle.sessions.specs.Parts.{batch_on}
 use Rattle.sessions.proofs.Listing.{listing_start, listing-turn, all-taken, no-more-room}
 use Rattle.sessions.proofs.run_each.Goals as goal
 

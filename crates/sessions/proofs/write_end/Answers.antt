@@ -1,6 +1,5 @@
 -- `sessions::write_end` meets its contract: the word, then three numbers. Assumes nothing.
 use native.Mathlib.Omega.{arith}
-use borrow.Author.Rules.{rules}
 use Rattle.sessions.proofs.Text.{no_room, end_is}
 use Rattle.sessions.proofs.write_end.Goals as goal
 

@@ -2,8 +2,7 @@
 use Prim.Native.Nat.{◌+◌, ◌≤◌}
 use native.Mathlib.Omega.{arith}
 use lib.ListN.{length}
-use borrow.Author.Rules.{rules}
-use Rattle.sessions.proofs.Text.{few, text-length, number-ends, number_is}
+use Rattle.sessions.proofs.Text.{few, number-ends, number_is}
 use Rattle.sessions.proofs.write_number.Goals as goal
 
 pub returns-clause-value : goal.returns-clause-value

@@ -1,6 +1,5 @@
 -- `sessions::write_three` meets its contract: one number after the other. Assumes nothing.
 use native.Mathlib.Omega.{arith}
-use borrow.Author.Rules.{rules}
 use Rattle.sessions.proofs.Text.{three-ends, three-is}
 use Rattle.sessions.proofs.write_three.Goals as goal
 
