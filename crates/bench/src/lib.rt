@@ -1,10 +1,9 @@
 // What bench/ times, in a memory of `rows` rows, 24 to 96. Each begins with a fresh terminal in the lent buffers; `changed`, of two words, gets the rows that changed
-// since then, or since the form was painted.
+// since then, or since the form was painted. Each takes what C passes, one by one.
 #![tactic(auto)]
 
 ghost use Rattle.std.specs.Prelude.{◌≤◌};
 
-use key::KeyAnswer;
 use terminal::Terminal;
 
 // A host stream; how many of its bytes are taken.
@@ -25,14 +24,7 @@ pub fn run_host(
     answer.taken
 }
 
-// How many rows the reports told of in all, and the state afterwards.
-#[derive(Clone, Copy)]
-struct Lines {
-    sum: u64,
-    state: Terminal,
-}
-
-// The lines of 80 bytes of a host stream, with a report behind each.
+// The lines of 80 bytes of a host stream, with a report behind each; how many rows the reports tell of in all, and the state afterwards.
 fn report_lines(
     t: Terminal,
     rows: usize,
@@ -40,24 +32,18 @@ fn report_lines(
     attrs: &mut [u8],
     bytes: &[u8],
     reply: &mut [u8],
-) -> Lines
+) -> (u64, Terminal)
     requires { (24 ≤ rows) × (rows ≤ 96) }
 {
     let mut state = t;
-    let mut sum = 0;
-    let mut at = 0;
-    while 80 <= bytes.len() - at {
-        let end = at + 80;
-        let answer = host::host_on(state, rows, chars, attrs, &bytes[at..end], reply);
+    let mut sum = 0u64;
+    for line in bytes.chunks_exact(80) {
+        let answer = host::host_on(state, rows, chars, attrs, line, reply);
         let told = report::report_on(answer.state, rows);
         state = told.state;
-        sum = (sum + told.count as u64) % 4294967296;
-        at = end;
+        sum = sum.wrapping_add(told.count as u64);
     }
-    Lines {
-        sum: sum,
-        state: state,
-    }
+    (sum, state)
 }
 
 // The lines of 80 bytes of a host stream, with a report behind each; how many rows the reports tell of in all.
@@ -72,9 +58,9 @@ pub fn run_lines(
     requires { (24 ≤ rows) × (rows ≤ 96) }
 {
     let begun = paint(rows, chars, attrs, b"", reply);
-    let lines = report_lines(begun, rows, chars, attrs, bytes, reply);
-    tell(lines.state, changed);
-    lines.sum
+    let (sum, state) = report_lines(begun, rows, chars, attrs, bytes, reply);
+    tell(state, changed);
+    sum
 }
 
 // The rows that changed, in two words.
@@ -110,18 +96,16 @@ pub fn run_posts(
 {
     let mut t = paint(rows, chars, attrs, form, reply);
     let mut number = 0;
-    let mut left = times;
-    while 0 < left {
+    for _ in 0..times {
         let answer = post::post_on(t, rows, chars, attrs, field, text);
         t = answer.state;
         number = answer.number;
-        left -= 1;
     }
     tell(t, changed);
     number
 }
 
-// Two keys in turn, `times` in all; the answer of the last.
+// Two keys in turn, `times` in all; the number of the last, and the state afterwards.
 fn press_in_turn(
     t: Terminal,
     rows: usize,
@@ -131,26 +115,18 @@ fn press_in_turn(
     code: u16,
     other: u16,
     times: usize,
-) -> KeyAnswer
+) -> (u8, Terminal)
     requires { (24 ≤ rows) × (rows ≤ 96) }
 {
     let mut state = t;
     let mut number = 0;
-    let mut turn = false;
-    let mut left = times;
-    while 0 < left {
-        let pressed = if turn { other } else { code };
+    for i in 0..times {
+        let pressed = if i % 2 == 0 { code } else { other };
         let answer = key::key_on(state, rows, chars, attrs, pressed, reply);
         state = answer.state;
         number = answer.number;
-        turn = !turn;
-        left -= 1;
     }
-    KeyAnswer {
-        number: number,
-        written: 0,
-        state: state,
-    }
+    (number, state)
 }
 
 // A host stream that paints a form, then two keys in turn, `times` in all, and a character that shows where the cursor is; the number of the last key.
@@ -168,11 +144,10 @@ pub fn run_keys(
     requires { (24 ≤ rows) × (rows ≤ 96) }
 {
     let painted = paint(rows, chars, attrs, form, reply);
-    let answer = press_in_turn(painted, rows, chars, attrs, reply, code, other, times);
-    let shown = [88u8];
-    let last = host::host_on(answer.state, rows, chars, attrs, &shown, reply);
+    let (number, state) = press_in_turn(painted, rows, chars, attrs, reply, code, other, times);
+    let last = host::host_on(state, rows, chars, attrs, b"X", reply);
     tell(last.state, changed);
-    answer.number
+    number
 }
 
 // A host stream that paints a form, then `ESC d DC1` `times` times; how many bytes the last of them sends.
@@ -187,15 +162,12 @@ pub fn run_blocks(
 ) -> usize
     requires { (24 ≤ rows) × (rows ≤ 96) }
 {
-    let ask = [27u8, 100, 17];
     let mut t = paint(rows, chars, attrs, form, reply);
     let mut sent = 0;
-    let mut left = times;
-    while 0 < left {
-        let answer = host::host_on(t, rows, chars, attrs, &ask, reply);
+    for _ in 0..times {
+        let answer = host::host_on(t, rows, chars, attrs, b"\x1bd\x11", reply);
         t = answer.state;
         sent = answer.written;
-        left -= 1;
     }
     tell(t, changed);
     sent
