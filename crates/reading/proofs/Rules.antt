@@ -35,11 +35,6 @@ next_small a =
     let at : (k : ℕ) → ltb k 7 ≡ true → k < 7 = λ k e. ltb-true k 7 e in
     either P _ (at 1 refl) (either P _ (at 2 refl) (either P _ (at 3 refl) (either P _ (at 4 refl) (either P _ (at 5 refl) (either P _ (at 6 refl) (at 0 refl))))))
 
--- an action that is no sign stays
-pub settled-other : (a : ℕ) (n : Number) → eqb a plus || eqb a minus ≡ false → settled a n ≡ a
-unfolding settled
-settled-other a n other = rw other
-
 -- a byte counts modulo 128
 pub byte-modulo : (s byte : ℕ) → action_of s (byte % 128) ≡ action_of s byte
 unfolding action_of

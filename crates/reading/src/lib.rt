@@ -32,6 +32,7 @@ pub fn next_reading(a: Action) -> u8
 }
 
 // The number being read: sign 0 none, 1 plus, 2 minus; whether a digit came; its value, at most 999.
+// The sign stays a number: it is part of the state that C hands in, which may be any, and `is_sound` tests it.
 #[derive(Clone, Copy, Default)]
 pub struct Number {
     pub sign: u8,

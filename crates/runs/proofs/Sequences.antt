@@ -2,14 +2,14 @@
 use Prim.Native.Nat.{ℕ, suc, ◌+◌, ◌%◌, ◌≤◌, ◌<◌}
 use mathlib.Core.Path.{◌≡◌, refl, sym, ap, ◌∙◌}
 use mathlib.Core.Bool.{true, false, cond, and-eq-true_iff}
-use mathlib.Core.Logic.{◌⊎◌, ⊎_elim, inl, inr}
+use mathlib.Core.Logic.{inl, inr}
 use mathlib.Core.List.{List}
 use native.Mathlib.Omega.{arith}
 use native.Mathlib.Numerals.{add-one}
 use lib.ListN.{length, drop, get_or}
 use lib.Dec.{leb}
 use lib.Seq.{drop-cons, drop-length}
-use borrow.Author.Tests.{ne_eqb, leb-true, lt-leb}
+use borrow.Author.Tests.{leb-true, lt-leb}
 use Rattle.cells.specs.Range.{within}
 use Rattle.cells.proofs.Choices.{choose-by}
 use Rattle.cells.proofs.Patch.{lt-or, eq-or}
@@ -18,10 +18,10 @@ use Rattle.cursor.specs.Cursor.{InPlace}
 use Rattle.cursor.proofs.Addressing.{to-column-in, to-row-in, to-window-row-in}
 use Rattle.reading.specs.declared.Number.{Number}
 use Rattle.reading.specs.Action as Action
-use Rattle.reading.specs.Reading.{action_of, unbegun, settled, counted, next_reading, SoundNumber}
+use Rattle.reading.specs.Reading.{action_of, settled, counted, next_reading, SoundNumber}
 use Rattle.reading.proofs.Computed.{or_right}
 use Rattle.reading.proofs.Numbers.{sound-kept}
-use Rattle.reading.proofs.Rules.{either, settled-other, next_small}
+use Rattle.reading.proofs.Rules.{either, next_small}
 use Rattle.runs.specs.declared.Reader.{Reader}
 use Rattle.runs.specs.Sequences.{in_sequence, addressed, reader, turned, followed}
 
@@ -74,20 +74,6 @@ module _ (rows a b next : ℕ) (r : Reader) where
   turned-reads g =
       either (Reads rows) (in_sequence (settled a r.number))
       (record { reading_in = next_small _; number_in = sound-kept _ _ g.number_in; place = addressed-in g.place _ _ }) g
-
-  -- a sign, first or not
-  pub turned-sign : (a ≡ Action.plus) ⊎ (a ≡ Action.minus) → turned rows a b next r ≡ (let s = settled a r.number in reader r.cursor (counted s b r.number) (next_reading s) next)
-  unfolding turned settled in_sequence addressed
-  turned-sign =
-      let P : ℕ → Type 0 = λ s. cond (in_sequence s) (reader (addressed rows s r.number r.cursor) (counted s b r.number) (next_reading s) next) r ≡ reader r.cursor (counted s b r.number) (next_reading s) next in
-      ⊎_elim (λ e. rw e (either P (unbegun r.number) refl refl)) (λ e. rw e (either P (unbegun r.number) refl refl))
-
-  -- an action that is of no sequence before it is settled
-  pub turned_none : (in_sequence a ≡ true → ⊥) → turned rows a b next r ≡ r
-  unfolding turned in_sequence
-  turned_none out =
-      let same : settled a r.number ≡ a = settled-other a r.number (rw (ne_eqb a Action.plus (λ e. out (ap in_sequence e)), ne_eqb a Action.minus (λ e. out (ap in_sequence e)))) in
-      choose-by (λ (x : Reader). x ≡ r) (in_sequence (settled a r.number)) (λ t. absurd (out (ap in_sequence (sym same) ∙ t))) (λ _. refl)
 
 -- ---- the steps of a loop that follows the bytes
 module _ (rows : ℕ) (bytes : List ℕ) (r : Reader) where

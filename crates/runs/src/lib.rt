@@ -13,7 +13,7 @@ ghost use Rattle.runs.specs.Sequences.{reader, turned, followed};
 use cursor::Cursor;
 use reading::{Action, Number};
 
-// How many bytes of text were copied, and whether a cell changed.
+// How many bytes of text were copied, and whether a cell changed: each tells its own, so this is no `Option`.
 #[derive(Clone, Copy)]
 pub struct Stretch {
     pub count: usize,
@@ -42,6 +42,7 @@ pub fn copy_text(chars: &mut [u8], bytes: &[u8], from: usize, cell: usize) -> St
 {
     let most = bound(bytes.len() - from, chars.len() - 1 - cell, cell);
     let mut changed = false;
+    // By hand: one pass tests, compares and copies up to the first byte that is no text, where iterators take a pass to find that byte and one to copy.
     let mut n = 0;
     while n < most {
         let b = bytes[from + n];
@@ -158,6 +159,7 @@ pub fn follow(
         reading: s,
         at: from,
     };
+    // By hand: the place is part of the reader, and `turn` tells by it whether the byte was taken.
     while r.at < bytes.len() {
         let i = r.at;
         let byte = bytes[i];

@@ -24,6 +24,7 @@ use cursor::Cursor;
 use reading::{Action, Number};
 
 // The state. `pending` is 0 none, 1 absolute cursor, 2 window cursor, 3 status, 4 block; `reading` is the reading state, 0 to 6; `changes` has the rows that changed.
+// Both stay numbers, and the sign in `number` too: C hands in any state, and `is_good` tests it.
 #[derive(Clone, Copy)]
 pub struct Terminal {
     pub cursor: Cursor,

@@ -1,15 +1,13 @@
 -- `runs::copy_text` meets its contract: the loop's invariant is `Cells` with `Seen`, and the bytes before the loop's place are all text. Assumes nothing.
-use Prim.Native.Nat.{ℕ, ◌+◌, ◌-◌, ◌%◌, ◌≤◌, ◌<◌}
+use Prim.Native.Nat.{ℕ, ◌+◌, ◌-◌, ◌%◌, ◌<◌}
 use mathlib.Core.Path.{◌≡◌, refl, sym, ap, ◌∙◌}
 use mathlib.Core.Bool.{true}
-use mathlib.Core.Logic.{inl, inr, ⊎_elim}
+use mathlib.Core.Logic.{inl, inr}
 use native.Mathlib.Omega.{arith}
 use lib.ListN.{get_or}
-use borrow.Author.Rules.{rules}
-use borrow.Author.Tests.{not-true, not-false}
-use Rattle.cells.proofs.Patch.{Cells, none, up, done, eq-or}
+use Rattle.cells.proofs.Patch.{none, up, done, eq-or}
 use Rattle.changes.specs.Differing.{differs}
-use Rattle.compare.proofs.Patches.{Seen, seen_none, seen_same, seen_other}
+use Rattle.compare.proofs.Patches.{seen_none, seen_same, seen_other}
 use Rattle.runs.specs.Texts.{is_text}
 use Rattle.runs.proofs.Texts.{begun}
 use Rattle.runs.proofs.copy_text.Goals as goal

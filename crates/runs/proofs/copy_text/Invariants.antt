@@ -1,17 +1,11 @@
 -- `runs::copy_text` meets its contract: the loop's invariant is `Cells` with `Seen`, and the bytes before the loop's place are all text. Assumes nothing.
 use Prim.Native.Nat.{ℕ, ◌+◌, ◌-◌, ◌%◌, ◌≤◌, ◌<◌}
-use mathlib.Core.Path.{◌≡◌, refl, sym, ap, ◌∙◌}
+use mathlib.Core.Path.{◌≡◌}
 use mathlib.Core.Bool.{true}
-use mathlib.Core.Logic.{inl, inr, ⊎_elim}
-use native.Mathlib.Omega.{arith}
 use lib.ListN.{get_or}
-use borrow.Author.Rules.{rules}
-use borrow.Author.Tests.{not-true, not-false}
-use Rattle.cells.proofs.Patch.{Cells, none, up, done, eq-or}
-use Rattle.changes.specs.Differing.{differs}
-use Rattle.compare.proofs.Patches.{Seen, seen_none, seen_same, seen_other}
+use Rattle.cells.proofs.Patch.{Cells}
+use Rattle.compare.proofs.Patches.{Seen}
 use Rattle.runs.specs.Texts.{is_text}
-use Rattle.runs.proofs.Texts.{begun}
 use Rattle.runs.proofs.copy_text.Given as goal
 
 abbrev pub invariant-loop-n : goal.invariant-loop-n

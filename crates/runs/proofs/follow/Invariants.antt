@@ -1,10 +1,9 @@
 -- `runs::follow` meets its contract. The loop's invariant: the bytes left, followed from here, leave what all leave from the start. The measure is what is left of the bytes. Assumes nothing.
 use Prim.Native.Nat.{◌-◌, ◌≤◌}
-use mathlib.Core.Path.{◌≡◌, refl, ◌∙◌}
-use native.Mathlib.Omega.{arith}
+use mathlib.Core.Path.{◌≡◌}
 use lib.ListN.{length, drop}
 use Rattle.runs.specs.Sequences.{followed}
-use Rattle.runs.proofs.Sequences.{Reads, turned-reads, follow-turn, follow-stop, follow-end}
+use Rattle.runs.proofs.Sequences.{Reads}
 use Rattle.runs.proofs.follow.Given as goal
 
 abbrev pub invariant-loop-r : goal.invariant-loop-r
