@@ -98,7 +98,7 @@ pub fn kind_after(i: usize, before: u8, mark: u8) -> u8
     before
 }
 
-// The mark that governs a cell.
+// The mark that governs a cell. It stays a number: four bits of a lent byte, any of sixteen.
 pub fn kind_at(attrs: &[u8], cell: usize) -> u8
     requires { cell < length attrs.now }
     ensures { result ≡ kind_at (marks attrs.now) cell }

@@ -88,6 +88,7 @@ impl<'a> Filled<'a> {
 }
 
 // Reads until the array is full, the file ends or a read fails: what was read are the file's next bytes, and where fewer than the array has were read and no read failed, it has no more.
+// A `while`, since a read may give fewer bytes than there is room for.
 pub fn fill<'a, R: Read>(file: &mut R, bytes: &'a mut [u8]) -> Filled<'a>
     ensures upper_bound { length result.bytes.now ≤ length bytes.old }
     ensures next { Consumes (R.remaining file.old) (R.remaining file.new) result.bytes.now }

@@ -42,7 +42,7 @@ fn end_of_inner(rows: usize, at: usize) -> usize
 }
 
 // Row `at` goes, the rows below it move up, a blank row enters. The last character counts as `end`: text that is written there and then scrolls.
-// Most rows differ in their first cell: such rows cost a short loop of their own.
+// Most rows differ in their first cell: such rows cost a short loop of their own, and since both loops go on from the same row, they count it themselves.
 fn look_up(chars: &[u8], attrs: &[u8], rows: usize, at: usize, end: u8) -> Changes
     requires { (length chars.now ≡ rows * 80) × (length attrs.now ≡ rows * 80) × (rows ≤ 96) × (at < rows) }
     ensures { result ≡ set_of (differing_both rows chars.now attrs.now (moved_up (set chars.now (rows * 80 - 1) end) (at * 80) 32) (moved_up attrs.now (at * 80) 0)) }
