@@ -155,7 +155,7 @@ impl<'a> Machine<'a> {
     }
 }
 
-// Three numbers in decimal, a space between two. By `write!` a call takes half as long again.
+// Three numbers in decimal, a space between two.
 fn print_numbers(out: &mut Output, numbers: [u64; 3]) {
     for (i, n) in numbers.iter().enumerate() {
         if 0 < i {
