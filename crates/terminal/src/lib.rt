@@ -16,12 +16,11 @@ ghost use Rattle.terminal.specs.Numbers.{answered};
 ghost use Rattle.terminal.specs.Fresh.{fresh_left, freshened};
 ghost use Rattle.terminal.specs.Acts.{formatted, inserting, locked, asking, softly_reset, tab_set, switched, tabbed_by, back_tabbed_by, steered, stamps, stamped, acted};
 
-pub use refusal::{Refusal, answer};
-pub use size::{Rows48, Rows96, Size};
-
 use changes::Changes;
 use cursor::Cursor;
 use reading::{Action, Number};
+pub use refusal::{Refusal, answer};
+pub use size::{Rows48, Rows96, Size};
 
 // The state. `pending` is 0 none, 1 absolute cursor, 2 window cursor, 3 status, 4 block; `reading` is the reading state, 0 to 6; `changes` has the rows that changed.
 // Both stay numbers, and the sign in `number` too: C hands in any state, and `is_good` tests it.

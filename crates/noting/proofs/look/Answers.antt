@@ -1,21 +1,14 @@
 -- `noting::look` meets its contract: each arm is its action's, and the rest is what `look_stamp` tells. Assumes nothing.
-use Rattle.std.proofs.Common.{rules, tests}
 use Prim.Native.Nat.{ℕ, ◌*◌}
-use mathlib.Core.Path.{sym, ap, ap₂, ◌∙◌}
-use mathlib.Core.Bool.{Bool, cond}
+use mathlib.Core.Path.{ap₂, ◌∙◌}
 use mathlib.Core.List.{List}
-use borrow.Author.Rules.{rules}
-use borrow.Author.Tests.{ne_eqb}
 use Rattle.changes.specs.Sets.{set_of}
 use Rattle.changes.specs.Differing.{differing_both}
-use Rattle.cursor.specs.declared.Cursor.{Cursor}
-use Rattle.cursor.specs.Cursor.{cell_of}
 use Rattle.looks.specs.Looks.{changed}
-use Rattle.terminal.specs.State.{world, fresh_world}
-use Rattle.terminal.specs.Acts.{steered, stamps, stamped, acted}
+use Rattle.terminal.specs.State.{fresh_world}
+use Rattle.terminal.specs.Acts.{acted}
 use Rattle.terminal.specs.Noted.{differing_rows}
 use Rattle.terminal.proofs.Blank.{filled-whole}
-use Rattle.noting.proofs.Looking.{stamped-rows}
 use Rattle.noting.proofs.look.Goals as goal
 
 pub returns-in-HardReset : goal.returns-in-HardReset

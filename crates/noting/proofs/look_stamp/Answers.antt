@@ -1,7 +1,6 @@
 -- `noting::look_stamp` meets its contract, by the test of `is_stamp`. Assumes nothing.
 use mathlib.Core.Path.{sym, ◌∙◌}
 use native.Mathlib.Omega.{arith}
-use borrow.Author.Rules.{rules}
 use Rattle.changes.proofs.Differing.{attrs-row, no_row}
 use Rattle.cursor.proofs.Place.{row_in}
 use Rattle.noting.proofs.Looking.{stamped-beside}

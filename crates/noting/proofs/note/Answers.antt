@@ -1,12 +1,10 @@
 -- `noting::note` meets its contract: where all rows are set there is none to add, else the rows told are joined to the state's. Assumes nothing.
 use mathlib.Core.Path.{refl}
-use borrow.Author.Rules.{rules}
 use Rattle.changes.specs.Sets.{rows_of}
 use Rattle.changes.proofs.Sets.{set-rows}
 use Rattle.terminal.specs.State.{world}
 use Rattle.terminal.specs.Acts.{acted}
 use Rattle.terminal.specs.Noted.{differing_rows}
-use Rattle.terminal.proofs.Kept.{whole}
 use Rattle.terminal.proofs.Noted.{length-differing_rows}
 use Rattle.noting.proofs.Looking.{all_noted}
 use Rattle.reading.specs.Action.{number_of}

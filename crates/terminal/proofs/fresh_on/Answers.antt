@@ -1,6 +1,5 @@
 -- `fresh_on` meets its contract: by the test for the two lengths. Assumes nothing.
 use mathlib.Core.Path.{sym, ◌∙◌}
-use borrow.Author.Rules.{rules}
 use Rattle.terminal.proofs.Good.{sized-in}
 use Rattle.terminal.proofs.Blank.{freshened-done, freshened-not}
 use Rattle.terminal.proofs.fresh_on.Goals as goal

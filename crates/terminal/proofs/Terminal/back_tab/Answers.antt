@@ -1,6 +1,5 @@
 -- `terminal::Terminal::back_tab` meets its contract: by fields with format on, by tab stops with format off. Assumes nothing.
 use mathlib.Core.Path.{ap}
-use borrow.Author.Rules.{rules}
 use Rattle.terminal.specs.State.{placed}
 use Rattle.terminal.specs.Acts.{back_tabbed_by}
 use Rattle.terminal.proofs.Terminal.back_tab.Goals as goal

@@ -1,6 +1,5 @@
 -- `check` meets its contract: each number by the tests before it. Assumes nothing.
 use mathlib.Core.Path.{sym, ◌∙◌}
-use borrow.Author.Rules.{rules}
 use Rattle.terminal.specs.Refusals.{first_refusal}
 use Rattle.terminal.proofs.Terminal.check.Goals as goal
 

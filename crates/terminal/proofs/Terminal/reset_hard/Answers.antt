@@ -1,5 +1,4 @@
 -- `Terminal::reset_hard` meets its contract: both memories are filled whole. Assumes nothing.
-use borrow.Author.Rules.{rules}
 use Rattle.terminal.proofs.Blank.{reset-filled}
 use Rattle.terminal.proofs.Terminal.reset_hard.Goals as goal
 

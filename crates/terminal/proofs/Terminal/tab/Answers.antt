@@ -1,6 +1,5 @@
 -- `terminal::Terminal::tab` meets its contract: by fields with format on, by tab stops with format off. Assumes nothing.
 use mathlib.Core.Path.{ap}
-use borrow.Author.Rules.{rules}
 use Rattle.terminal.specs.State.{placed}
 use Rattle.terminal.specs.Acts.{tabbed_by}
 use Rattle.terminal.proofs.Terminal.tab.Goals as goal
