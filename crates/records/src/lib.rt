@@ -97,7 +97,7 @@ fn read<'a>(bytes: &'a [u8]) -> Result<Record<'a>, Refusal>
     }
 }
 
-// Host bytes, read by either reader: by a flag, since the calls above, which docs/CALLS.md names, are handed it.
+// Host bytes, read by either reader: by a flag, since the calls over it, which docs/CALLS.md names, are handed it.
 fn feed(
     t: Terminal,
     rows: usize,
