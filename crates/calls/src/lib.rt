@@ -6,7 +6,7 @@ ghost use Rattle.terminal.specs.State.{fresh_state};
 ghost use Rattle.sessions.specs.Session.{next as Session·next};
 
 use printing::Output;
-use terminal::Terminal;
+use terminal::{Refusal, Terminal};
 
 // What calls are made on: a terminal, its memory of `rows` rows, who owns its fields, a room for what is sent or read, and the number of the next call.
 #[derive(Drop)]
@@ -58,12 +58,9 @@ impl<'a> Machine<'a> {
     {
         let number = self.number;
         match self.make(bytes) {
-            Made::Answer(answer, size) => {
-                print_numbers(out, [number, answer as u64, size as u64]);
-                out.text(b"\n");
-            }
+            Made::Answer(answer, size) => writeln!(out, "{number} {answer} {size}"),
             Made::Text(size) => {
-                print_numbers(out, [number, 0, size as u64]);
+                write!(out, "{number} 0 {size}");
                 if let Some(text) = self.reply.get(..size) {
                     out.text(b" |");
                     out.text(text);
@@ -78,12 +75,12 @@ impl<'a> Machine<'a> {
     // The end line: the cursor's row and column, and the window's top.
     pub fn end(&self, out: &mut Output) {
         let cursor = self.state.cursor;
-        write!(out, "end {} {} {}\n", cursor.row, cursor.col, cursor.top);
+        writeln!(out, "end {} {} {}", cursor.row, cursor.col, cursor.top);
     }
 
     fn make(&mut self, bytes: &[u8]) -> Made {
         if bytes.len() < 85 {
-            return Made::Answer(12, 0);
+            return Made::Answer(Refusal::Part.number(), 0);
         }
         let record = &bytes[1..85];
         match bytes[0] {
@@ -107,14 +104,14 @@ impl<'a> Machine<'a> {
     {
         let size = usize::from(bytes[1]);
         if 80 < size {
-            return Made::Answer(11, 0);
+            return Made::Answer(Refusal::Form.number(), 0);
         }
         let field = records::number_of(bytes);
         let end = 4 + size;
         match bytes[0] {
             b'P' if records::is_zero(bytes, end) => self.post(reader, field, &bytes[4..end]),
             b'R' if records::is_zero(bytes, 4) => self.read(reader, field, size),
-            _ => Made::Answer(11, 0),
+            _ => Made::Answer(Refusal::Form.number(), 0),
         }
     }
 
@@ -152,17 +149,5 @@ impl<'a> Machine<'a> {
             0 => Made::Text(read.written),
             answer => Made::Answer(answer, read.written),
         }
-    }
-}
-
-// Three numbers in decimal, a space between two.
-fn print_numbers(out: &mut Output, numbers: [u64; 3]) {
-    for (i, n) in numbers.iter().enumerate() {
-        if 0 < i {
-            out.text(b" ");
-        }
-        let mut digits = [0u8; 20];
-        let size = io::decimal(*n, &mut digits);
-        out.text(&digits[..size]);
     }
 }

@@ -1,7 +1,7 @@
 // Byte memories: ranges, and the loops that write. Each cell is written at most once in one operation.
 #![tactic(auto)]
 
-ghost use Rattle.std.specs.Prelude.{◌≡◌, ◌+◌, ◌-◌, ◌≤◌, ◌<◌, min, ◌++◌, length, replicate};
+ghost use Rattle.std.specs.Prelude.{◌≡◌, ◌+◌, ◌-◌, ◌≤◌, ◌<◌, ◌++◌, length, replicate};
 ghost use Rattle.cells.specs.Range.{within};
 ghost use Rattle.cells.specs.Memory.{filled, shifted_right, shifted_left, moved_up, moved_down, written, posted};
 
@@ -10,13 +10,6 @@ pub fn is_within(lo: u8, hi: u8, v: u8) -> bool
     ensures { result ≡ within lo hi v }
 {
     (lo..=hi).contains(&v)
-}
-
-// The smaller of two numbers.
-pub fn least(a: usize, b: usize) -> usize
-    ensures { result ≡ min a b }
-{
-    a.min(b)
 }
 
 // Cells `from` to `to - 1` become `v`.

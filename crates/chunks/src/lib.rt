@@ -7,10 +7,7 @@ ghost use Rattle.report.specs.Reports.{reported};
 
 use printing::Output;
 use report::ReportAnswer;
-use terminal::Terminal;
-
-// The number of an answer that has more to send than the room takes.
-const MORE: u8 = 7;
+use terminal::{Refusal, Terminal};
 
 // What a file is run on: a terminal, its memory of `rows` rows, a room that takes replies or the lines of a session, and the number of the next record.
 #[derive(Drop)]
@@ -97,7 +94,7 @@ impl<'a> Machine<'a> {
             if let Some(reply) = self.room.get(..a.written) {
                 tell(reply);
             }
-            if a.number != MORE {
+            if a.number != Refusal::Room.number() {
                 return;
             }
             rest = rest.get(a.taken..).unwrap_or(&[]);
@@ -158,12 +155,12 @@ impl<'a> Machine<'a> {
             if let Some(reply) = self.room.get(..a.written) {
                 tell(reply);
             }
-            if a.number != MORE {
+            if a.number != Refusal::Room.number() {
                 return a.number;
             }
             at = a.at;
         }
-        MORE
+        Refusal::Room.number()
     }
 }
 

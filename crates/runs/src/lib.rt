@@ -32,7 +32,7 @@ fn bound(left: usize, room: usize, cell: usize) -> usize
     requires { (0 < left) × (0 < room) }
     ensures { (0 < result) × (result ≤ left) × (result ≤ room) × (cell + result ≤ end_of_row cell) }
 {
-    cells::least(cells::least(left, room), 80 - cell % 80)
+    left.min(room).min(80 - cell % 80)
 }
 
 // The run of text that begins at byte `from`, to the cells from `cell` on, up to the row's end or the last cell but one.
