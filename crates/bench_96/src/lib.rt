@@ -1,4 +1,4 @@
-// What bench/ times, for C, in a memory of 96 rows.
+// What bench/ times, for C, in a memory of 96 rows: C cannot call a generic function.
 #![tactic(auto)]
 
 #[unsafe(no_mangle)]

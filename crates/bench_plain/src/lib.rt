@@ -1,4 +1,4 @@
-// What bench/ times of the plain reader of host bytes, for C, in memories of 48 and of 96 rows.
+// What bench/ times of the plain reader of host bytes, for C, in memories of 48 and of 96 rows: C cannot call a generic function.
 #![tactic(auto)]
 
 ghost use Rattle.std.specs.Prelude.{◌≤◌};

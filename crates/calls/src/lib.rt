@@ -151,3 +151,85 @@ impl<'a> Machine<'a> {
         }
     }
 }
+
+#[cfg(test)]
+mod tests {
+    use std::process::Abort;
+    use terminal::{Rows48, Rows96, Size};
+
+    // The example of docs/CALLS.md: a form, a tag, a block transfer; then host lock, and who may read and post.
+    fn run_example<S: Size>(
+        rt: &impl Abort,
+        chars: &mut [u8],
+        attrs: &mut [u8],
+        reply: &mut [u8],
+    ) {
+        let f = terminal::fresh::<S>(chars, attrs);
+        let a = host::host::<S>(f.state, chars, attrs, b"\x1b[\x1b&a4C\x1b]\x1bW", reply);
+        let b = post::post::<S>(a.state, chars, attrs, 0, b"T17");
+        let c = host::host::<S>(b.state, chars, attrs, b"\x1bd\x11", reply);
+        assert_eq!(rt; (f.number, a.number, b.number, c.number), (0, 0, 0, 0));
+        assert_eq!(rt; c.written, 5);
+        assert!(rt; reply.starts_with(b"T17 \x1e"));
+        let mut owners = [0u8; 256];
+        owners[0] = 2;
+        let mut text = [0u8; 80];
+        let d = host::host::<S>(c.state, chars, attrs, b"\x1bc", reply);
+        let e = readers::read_back::<S>(d.state, chars, attrs, &owners, 2, 0, &mut text);
+        assert_eq!(rt; (e.number, e.written), (0, 4));
+        assert!(rt; text.starts_with(b"T17 "));
+        let g = readers::read_back::<S>(d.state, chars, attrs, &owners, 1, 0, &mut text);
+        let h = readers::post_as::<S>(d.state, chars, attrs, &owners, 2, 0, b"T18");
+        assert_eq!(rt; (g.number, h.number), (13, 4));
+    }
+
+    // The other calls, from a fresh terminal: all its rows are set, a letter goes to the first cell, and a record has its line.
+    fn run_others<S: Size>(
+        rt: &impl Abort,
+        chars: &mut [u8],
+        attrs: &mut [u8],
+        reply: &mut [u8],
+    ) {
+        let f = terminal::fresh::<S>(chars, attrs);
+        let told = report::report::<S>(f.state);
+        assert_eq!(rt; (told.number, told.count as usize, told.first), (0, S::rows(), 0));
+        let a = plain::host::<S>(told.state, chars, attrs, b"A", reply);
+        let b = key::key::<S>(a.state, chars, attrs, 66, reply);
+        assert_eq!(rt; (a.number, a.taken, b.number, b.written), (0, 1, 0, 0));
+        assert!(rt; chars.starts_with(b"AB "));
+        let told = report::report::<S>(b.state);
+        assert_eq!(rt; (told.number, told.count, told.first), (0, 1, 0));
+        let mut record = [0u8; 84];
+        record[0] = b'H';
+        record[1] = 1;
+        record[4] = b'C';
+        let c = records::run::<S>(told.state, chars, attrs, &record);
+        let d = records::run_from::<S>(c.state, chars, attrs, &record, 0, reply);
+        assert_eq!(rt; (c.answer, c.replied, d.number, d.at), (0, 0, 0, 1));
+        let mut lines = [0u8; 63];
+        let e = sessions::run_records::<S>(d.state, chars, attrs, 7, &record, &mut lines);
+        assert_eq!(rt; (e.taken, e.written, e.number), (84, 6, 8));
+        assert!(rt; lines.starts_with(b"7 0 0\n"));
+        assert!(rt; chars.starts_with(b"ABCCC "));
+    }
+
+    #[test]
+    fn calls_run_on_96_rows(rt: HostRuntime) {
+        let mut chars = [0u8; 7680];
+        let mut attrs = [0u8; 7680];
+        let mut reply = [0u8; 15360];
+        run_example::<Rows96>(&rt, &mut chars, &mut attrs, &mut reply);
+        run_others::<Rows96>(&rt, &mut chars, &mut attrs, &mut reply);
+        assert_eq!(rt; terminal::fresh::<Rows48>(&mut chars, &mut attrs).number, 1);
+    }
+
+    #[test]
+    fn calls_run_on_48_rows(rt: HostRuntime) {
+        let mut chars = [0u8; 3840];
+        let mut attrs = [0u8; 3840];
+        let mut reply = [0u8; 7680];
+        run_example::<Rows48>(&rt, &mut chars, &mut attrs, &mut reply);
+        run_others::<Rows48>(&rt, &mut chars, &mut attrs, &mut reply);
+        assert_eq!(rt; terminal::fresh::<Rows96>(&mut chars, &mut attrs).number, 1);
+    }
+}

@@ -8,7 +8,7 @@ ghost use Rattle.decisions.specs.Decisions.{step, step_of, goes_to, in_plain, af
 
 use reading::{Action, Number};
 
-// What a byte comes to: the action that it asks for, one of those that `reading` names, and the reading state and the number after it.
+// What a byte comes to: the action that it asks for, one of those that `reading` names, and the reading state, a number as in the terminal's state, and the number after it.
 #[derive(Clone, Copy)]
 pub struct Step {
     pub action: Action,
@@ -21,7 +21,7 @@ fn go_to(action: Action, state: u8) -> Step
     ensures { step_of result ≡ goes_to (number_of action) state }
 {
     Step {
-        action: action,
+        action,
         reading: state,
         number: Number::default(),
     }
@@ -156,7 +156,7 @@ fn read_sign(n: Number, action: Action, sign: u8) -> Step
         return count_on(
             action,
             Number {
-                sign: sign,
+                sign,
                 ..Number::default()
             },
         );
@@ -175,7 +175,7 @@ fn read_digit(n: Number, b: u8) -> Step
         Number {
             sign: n.sign,
             digit: true,
-            value: value,
+            value,
         },
     )
 }
@@ -185,9 +185,9 @@ fn count_on(action: Action, number: Number) -> Step
     ensures { step_of result ≡ step (number_of action) 3 number }
 {
     Step {
-        action: action,
+        action,
         reading: 3,
-        number: number,
+        number,
     }
 }
 

@@ -49,23 +49,16 @@ fn step(
 }
 
 // Whether a byte is text that goes to the cursor's cell, and the cursor right.
+#[tactic(auto, unfolding(crate::specs::Texts::types_freely))]
 fn types_freely(t: Terminal, rows: usize, byte: u8) -> bool
     requires { (rows ≤ 96) × (t.cursor.row < rows) × (t.cursor.col < 80) }
     ensures { result ≡ types_freely rows t byte }
 {
-    if !runs::is_text(byte) {
-        return false;
-    }
-    if t.reading != 0 {
-        return false;
-    }
-    if t.format {
-        return false;
-    }
-    if t.insert {
-        return false;
-    }
-    t.cursor.row * 80 + t.cursor.col + 1 < rows * 80
+    runs::is_text(byte)
+        && t.reading == 0
+        && !t.format
+        && !t.insert
+        && t.cursor.cell() + 1 < rows * 80
 }
 
 // The bytes, up to the one whose reply does not fit. A turn takes one byte or a run of them, so the place is counted by hand.

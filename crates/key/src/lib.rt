@@ -24,7 +24,7 @@ use cursor::Cursor;
 use reading::Action;
 use terminal::{Refusal, Size, Terminal};
 
-// The number of document 01, as C reads it, the bytes written to the reply, and the state afterwards.
+// The number, which stays a byte as docs/CALLS.md has it, the bytes written to the reply, and the state afterwards.
 #[derive(Clone, Copy)]
 pub struct KeyAnswer {
     pub number: u8,
@@ -92,7 +92,7 @@ fn admit(
     Ok(listed)
 }
 
-// Where tab goes: by fields with format on, by tab stops with format off.
+// Where tab goes: by fields with format on, by tab stops with format off. Not by `Terminal::tab`, so that the state is not copied.
 fn tab(t: Terminal, rows: usize, attrs: &[u8]) -> Cursor
     requires memory { (rows ≤ 96) × (length attrs.now ≡ rows * 80) }
     requires place { InPlace rows t.cursor }
@@ -201,18 +201,18 @@ fn ask(key: Key, pending: u8) -> u8
     if key == Key::Enter { 4 } else { pending }
 }
 
-// What a key does. The state is changed in its place, so that it is not copied from call to call.
-fn press(t: &mut Terminal, rows: usize, chars: &mut [u8], attrs: &mut [u8], key: Key)
-    requires sound { Sound rows (world t.old chars.old attrs.old) }
+// What a key does. The state is put together here alone, so that it is not copied from call to call.
+fn press(mut t: Terminal, rows: usize, chars: &mut [u8], attrs: &mut [u8], key: Key) -> Terminal
+    requires sound { Sound rows (world t chars.old attrs.old) }
     requires key { Sendable key }
-    ensures { world t.new chars.new attrs.new ≡ noted rows (world t.old chars.old attrs.old) (acted rows (key_action (code_of key) t.old.insert) (code_of key % 256) (world t.old chars.old attrs.old)) }
+    ensures { world result chars.new attrs.new ≡ noted rows (world t chars.old attrs.old) (acted rows (key_action (code_of key) t.insert) (code_of key % 256) (world t chars.old attrs.old)) }
 {
-    let joined = t.changes.join(look(*t, rows, chars, attrs, key));
-    let moved = strike(*t, rows, chars, attrs, key);
-    t.cursor = moved;
+    let joined = t.changes.join(look(t, rows, chars, attrs, key));
+    t.cursor = strike(t, rows, chars, attrs, key);
     t.insert = switch_insert(key, t.insert);
     t.pending = ask(key, t.pending);
     t.changes = joined;
+    t
 }
 
 // What a key writes to the reply, ENTER byte 18; how many bytes.
@@ -248,7 +248,7 @@ pub fn key_on(
     };
     match admit(t, rows, chars, attrs, code, reply.len()) {
         Ok(key) => {
-            press(&mut answer.state, rows, chars, attrs, key);
+            answer.state = press(t, rows, chars, attrs, key);
             answer.written = send(key, reply);
         }
         Err(refusal) => answer.number = refusal.number(),

@@ -96,7 +96,7 @@ fn note(t: Terminal, rows: usize, chars: &[u8], attrs: &[u8], a: Action, v: u8) 
         .join(look(c, t.format, t.insert, rows, chars, attrs, a, v))
 }
 
-// What an action does, its rows noted; `v` is the byte below 128, or the text key's code.
+// What an action does, its rows noted; `v` is the byte below 128.
 pub fn act(
     t: Terminal,
     rows: usize,

@@ -16,10 +16,9 @@ fn step(t: Terminal, rows: usize, chars: &mut [u8], attrs: &mut [u8], d: Step, b
     requires { Sound rows (world t chars.old attrs.old) }
     ensures { world result chars.new attrs.new ≡ stepped_to rows (step_of d) byte (world t chars.old attrs.old) }
 {
-    let number = d.number;
     let mut u = noting::act(t, rows, chars, attrs, d.action, byte % 128);
     u.reading = d.reading;
-    u.number = number;
+    u.number = d.number;
     u
 }
 

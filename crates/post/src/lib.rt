@@ -20,13 +20,11 @@ pub struct PostAnswer {
 }
 
 // Whether a post byte is 32 to 126 and allowed by a field's kind.
+#[tactic(auto, unfolding(crate::specs::Posts::fits))]
 fn fits_one(kind: u8, b: u8) -> bool
     ensures { result ≡ fits kind b }
 {
-    if cells::is_within(32, 126, b) {
-        return fields::allows(kind, b);
-    }
-    false
+    cells::is_within(32, 126, b) && fields::allows(kind, b)
 }
 
 // Whether each byte of a text fits.

@@ -10,7 +10,7 @@ use std::fmt;
 use std::fmt::Display;
 use std::io::{Error, Result, Stderr, Stdout};
 
-// The page, at whose start bytes wait, whether every write so far was taken, where the text goes, and where a failure is told. After a write that failed nothing more is
+// The page, at whose start bytes wait (std's writers with a buffer ask for an allocator), whether every write so far was taken, where the text goes, and where a failure is told. After a write that failed nothing more is
 // written.
 #[derive(Drop)]
 pub struct Output {

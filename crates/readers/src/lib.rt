@@ -31,24 +31,16 @@ fn is_table(owners: &[u8]) -> bool
 fn is_reader(reader: u8) -> bool
     ensures { result ≡ (eqb reader 1 || eqb reader 2) }
 {
-    if reader == 1 {
-        return true;
-    }
-    reader == 2
+    reader == 1 || reader == 2
 }
 
 // Whether a reader owns a field.
+#[tactic(auto, unfolding(crate::specs::Owners::owns))]
 fn owns_field(owners: &[u8], reader: u8, field: usize) -> bool
     requires { length owners.now ≡ 256 }
     ensures { result ≡ owns owners.now reader field }
 {
-    if !is_reader(reader) {
-        return false;
-    }
-    if 256 <= field {
-        return false;
-    }
-    owners[field] == reader
+    is_reader(reader) && field < 256 && owners[field] == reader
 }
 
 // A reader's post, in a memory of `rows` rows.
@@ -189,7 +181,7 @@ pub fn read_back_on(
     match read_text(t, rows, chars, attrs, owners, reader, field, out) {
         Ok(written) => ReadAnswer {
             number: 0,
-            written: written,
+            written,
         },
         Err(refusal) => ReadAnswer {
             number: refusal.number(),

@@ -91,13 +91,13 @@ fn read<'a>(bytes: &'a [u8]) -> Result<Record<'a>, Refusal>
         b'K' if size == 0 => Ok(Record::Key(number)),
         b'P' => Ok(Record::Post {
             field: number as usize,
-            text: text,
+            text,
         }),
         _ => Err(Refusal::Form),
     }
 }
 
-// Host bytes, read by either reader: by a flag, since the calls over it, which docs/CALLS.md names, are handed it.
+// Host bytes, read by either reader.
 fn feed(
     t: Terminal,
     rows: usize,
@@ -155,7 +155,7 @@ fn run_key(
     let a = key::key_on(t, rows, chars, attrs, code, reply);
     PartAnswer {
         number: a.number,
-        at: at,
+        at,
         written: a.written,
         state: a.state,
     }
@@ -177,7 +177,7 @@ fn run_post(
     let a = post::post_on(t, rows, chars, attrs, field, text);
     PartAnswer {
         number: a.number,
-        at: at,
+        at,
         written: 0,
         state: a.state,
     }
@@ -204,7 +204,7 @@ pub fn run_from_on(
         Ok(Record::Post { field, text }) => run_post(t, rows, chars, attrs, field, text, at, reply),
         Err(refusal) => PartAnswer {
             number: refusal.number(),
-            at: at,
+            at,
             written: 0,
             state: t,
         },

@@ -7,7 +7,7 @@ ghost use Rattle.report.specs.Reports.{reported};
 use changes::Changes;
 use terminal::{Refusal, Size, Terminal};
 
-// The number of document 01, as C reads it, how many rows are set, the first of them or the number of rows where none is, and the state afterwards, with none set.
+// The number of document 01, which stays a byte as docs/CALLS.md has it, how many rows are set, the first of them or the number of rows where none is, and the state afterwards, with none set.
 #[derive(Clone, Copy)]
 pub struct ReportAnswer {
     pub number: u8,
@@ -30,9 +30,8 @@ pub fn report_on(t: Terminal, rows: usize) -> ReportAnswer
         };
     }
     let told = t.changes.report(rows);
-    let none = Changes::none();
     let mut next = t;
-    next.changes = none;
+    next.changes = Changes::none();
     ReportAnswer {
         number: 0,
         count: told.count,

@@ -42,29 +42,26 @@ pub fn copy_text(chars: &mut [u8], bytes: &[u8], from: usize, cell: usize) -> St
 {
     let most = bound(bytes.len() - from, chars.len() - 1 - cell, cell);
     let mut changed = false;
-    // By hand: one pass tests, compares and copies up to the first byte that is no text, where iterators take a pass to find that byte and one to copy.
-    let mut n = 0;
-    while n < most {
+    for n in 0..most {
         let b = bytes[from + n];
         if !is_text(b) {
             return Stretch {
                 count: n,
-                changed: changed,
+                changed,
             };
         }
         if chars[cell + n] != b % 128 {
             changed = true;
         }
         chars[cell + n] = b % 128;
-        n += 1;
     }
     Stretch {
-        count: n,
-        changed: changed,
+        count: most,
+        changed,
     }
 }
 
-// Where the reading of sequences stands: the cursor, the number, the reading state, and the place of the next byte.
+// Where the reading of sequences stands: the cursor, the number, the reading state, a number as in the terminal's state, and the place of the next byte.
 #[derive(Clone, Copy)]
 pub struct Reader {
     pub cursor: Cursor,
@@ -80,8 +77,8 @@ fn begin_number(c: Cursor, reading: u8, at: usize) -> Reader
     Reader {
         cursor: c,
         number: Number::default(),
-        reading: reading,
-        at: at,
+        reading,
+        at,
     }
 }
 
@@ -118,8 +115,7 @@ fn turn(r: Reader, rows: usize, a: Action, b: u8, next: usize) -> Reader
         Action::ToCursor => begin_number(c, 3, next),
         Action::ToEnhance => begin_number(c, 4, next),
         Action::ToOther => begin_number(c, 5, next),
-        Action::Plus => sign(r, Action::Plus, b, next),
-        Action::Minus => sign(r, Action::Minus, b, next),
+        Action::Plus | Action::Minus => sign(r, a, b, next),
         Action::Digit => Reader {
             cursor: c,
             number: n.count(Action::Digit, b),

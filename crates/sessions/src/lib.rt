@@ -84,7 +84,7 @@ fn run_each(
         taken += record.len();
     }
     LinesAnswer {
-        taken: taken,
+        taken,
         written: to,
         number: n,
         state: u,

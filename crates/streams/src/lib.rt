@@ -10,7 +10,7 @@ ghost use Rattle.streams.specs.Streams.{pending_reply, reply_to};
 use reading::Action;
 use terminal::Terminal;
 
-// The number of document 01, as C reads it, the bytes taken, the bytes written to the reply, and the state afterwards.
+// The number, which stays a byte as docs/CALLS.md has it, the bytes taken, the bytes written to the reply, and the state afterwards.
 #[derive(Clone, Copy)]
 pub struct HostAnswer {
     pub number: u8,

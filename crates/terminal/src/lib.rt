@@ -23,7 +23,7 @@ pub use refusal::{Refusal, answer};
 pub use size::{Rows48, Rows96, Size};
 
 // The state. `pending` is 0 none, 1 absolute cursor, 2 window cursor, 3 status, 4 block; `reading` is the reading state, 0 to 6; `changes` has the rows that changed.
-// Both stay numbers, and the sign in `number` too: C hands in any state, and `is_good` tests it.
+// Both stay numbers, and the sign in `number` too: a call takes any state, and `is_good` tests it.
 #[derive(Clone, Copy)]
 pub struct Terminal {
     pub cursor: Cursor,
@@ -43,7 +43,6 @@ impl Terminal {
         requires { rows ≤ 96 }
         ensures { result ≡ fresh_state rows }
     {
-        let changes = Changes::all(rows);
         Terminal {
             cursor: Cursor {
                 row: 0,
@@ -57,7 +56,7 @@ impl Terminal {
             reading: 0,
             number: Number::default(),
             tabs: [false; 80],
-            changes: changes,
+            changes: Changes::all(rows),
         }
     }
 
@@ -468,7 +467,7 @@ impl Terminal {
         Terminal::fresh_state(rows)
     }
 
-    // What an action does; `v` is the byte below 128, or the text key's code.
+    // What an action does; `v` is the byte below 128.
     #[tactic(auto, unfolding(crate::specs::Acts::acted))]
     pub fn act(self, rows: usize, chars: &mut [u8], attrs: &mut [u8], a: Action, v: u8) -> Terminal
         requires { Sound rows (world self chars.old attrs.old) }

@@ -20,7 +20,9 @@ impl Size for Rows96 {
 
     ghost in_range = { Prim.search rules };
 
-    fn rows() -> usize {
+    fn rows() -> usize
+        ensures { result ≡ 96 }
+    {
         96
     }
 }
@@ -33,7 +35,9 @@ impl Size for Rows48 {
 
     ghost in_range = { Prim.search rules };
 
-    fn rows() -> usize {
+    fn rows() -> usize
+        ensures { result ≡ 48 }
+    {
         48
     }
 }

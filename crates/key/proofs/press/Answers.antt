@@ -8,6 +8,6 @@ use Rattle.key.proofs.press.Goals as goal
 pub returns : goal.returns
 unfolding pressed
 returns c =
-    rw (c.switch_insert-t.ensures, c.ask-t.ensures)
-    (pressed-left c.args.rows (code_of c.args.key) (world c.args.t.now c.args.chars.now c.args.attrs.now) c.requires.sound c.strike-moved.ensures c.look.ensures
+    rw (c.switch_insert.ensures, c.ask.ensures)
+    (pressed-left c.args.rows (code_of c.args.key) (world c.args.t c.args.chars.now c.args.attrs.now) c.requires.sound c.strike.ensures c.look.ensures
     c.join-joined.ensures.0 c.join-joined.ensures.1)
