@@ -3,8 +3,8 @@ use Rattle.terminal.specs.State.{world}
 use Rattle.key.proofs.Admitted.{refused-left, ready, roomy, done-left}
 use Rattle.key.proofs.key_on.Goals as goal
 
-pub press-requires-clause-sound : goal.press-requires-clause-sound
-press-requires-clause-sound c =
+pub press-answer-requires-clause-sound : goal.press-answer-requires-clause-sound
+press-answer-requires-clause-sound c =
     let a = c.args in
     (ready a.rows (world a.t a.chars.now a.attrs.now) a.reply.now a.code c.admit.ensures.number c.in-Ok.is c.requires.1).sound
 
@@ -16,7 +16,7 @@ send-requires-clause-room c =
 pub returns-in-Ok : goal.returns-in-Ok
 returns-in-Ok c =
     let a = c.args in
-    rw (c.send.ensures.count, c.send.ensures.reply, c.press.ensures)
+    rw (c.send.ensures.count, c.send.ensures.reply, c.press-answer.ensures)
     (done-left a.rows (world a.t a.chars.now a.attrs.now) a.reply.now a.code c.admit.ensures.number c.in-Ok.is c.in-Ok.ensures.key.0)
 
 pub returns-in-Err : goal.returns-in-Err

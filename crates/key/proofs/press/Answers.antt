@@ -9,5 +9,5 @@ pub returns : goal.returns
 unfolding pressed
 returns c =
     rw (c.switch_insert.ensures, c.ask.ensures)
-    (pressed-left c.args.rows (code_of c.args.key) (world c.args.t c.args.chars.now c.args.attrs.now) c.requires.sound c.strike.ensures c.look.ensures
+    (pressed-left c.args.rows (code_of c.args.key) (world c.args.t c.args.chars.now c.args.attrs.now) c.requires.sound c.strike-t.ensures c.look.ensures
     c.join-joined.ensures.0 c.join-joined.ensures.1)

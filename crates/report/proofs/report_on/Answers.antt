@@ -19,4 +19,4 @@ report-told-requires c = (c.requires.1, (good-in c.args.rows c.args.t (sym c.is_
 
 pub returns : goal.returns
 unfolding reported report_refusal first_refusal
-returns c = let left : Report → Changes → ReportAnswer = λ r n. record { number = 0; count = r.count; first = r.first; state = flagged c.args.t n } in rw (sym c.is_good.ensures ∙ c.if-not-is_good.false) (ap₂ left c.report-told.ensures (c.none-none.ensures c.args.rows))
+returns c = let left : Report → Changes → ReportAnswer = λ r n. record { number = 0; count = r.count; first = r.first; state = flagged c.args.t n } in rw (sym c.is_good.ensures ∙ c.if-not-is_good.false) (ap₂ left c.report-told.ensures (c.none-next.ensures c.args.rows))
