@@ -158,12 +158,7 @@ mod tests {
     use terminal::{Rows48, Rows96, Size};
 
     // The example of docs/CALLS.md: a form, a tag, a block transfer; then host lock, and who may read and post.
-    fn run_example<S: Size>(
-        rt: &impl Abort,
-        chars: &mut [u8],
-        attrs: &mut [u8],
-        reply: &mut [u8],
-    ) {
+    fn run_example<S: Size>(rt: &impl Abort, chars: &mut [u8], attrs: &mut [u8], reply: &mut [u8]) {
         let f = terminal::fresh::<S>(chars, attrs);
         let a = host::host::<S>(f.state, chars, attrs, b"\x1b[\x1b&a4C\x1b]\x1bW", reply);
         let b = post::post::<S>(a.state, chars, attrs, 0, b"T17");
@@ -184,15 +179,13 @@ mod tests {
     }
 
     // The other calls, from a fresh terminal: all its rows are set, a letter goes to the first cell, and a record has its line.
-    fn run_others<S: Size>(
-        rt: &impl Abort,
-        chars: &mut [u8],
-        attrs: &mut [u8],
-        reply: &mut [u8],
-    ) {
+    fn run_others<S: Size>(rt: &impl Abort, chars: &mut [u8], attrs: &mut [u8], reply: &mut [u8]) {
         let f = terminal::fresh::<S>(chars, attrs);
         let told = report::report::<S>(f.state);
-        assert_eq!(rt; (told.number, told.count as usize, told.first), (0, S::rows(), 0));
+        assert_eq!(rt;
+            (told.number, told.count as usize, told.first),
+            (0, S::rows(), 0)
+        );
         let a = plain::host::<S>(told.state, chars, attrs, b"A", reply);
         let b = key::key::<S>(a.state, chars, attrs, 66, reply);
         assert_eq!(rt; (a.number, a.taken, b.number, b.written), (0, 1, 0, 0));

@@ -179,10 +179,7 @@ pub fn read_back_on(
     ensures { read_left result out.new ≡ read_back_of rows (world t chars.now attrs.now) owners.now reader field out.old }
 {
     match read_text(t, rows, chars, attrs, owners, reader, field, out) {
-        Ok(written) => ReadAnswer {
-            number: 0,
-            written,
-        },
+        Ok(written) => ReadAnswer { number: 0, written },
         Err(refusal) => ReadAnswer {
             number: refusal.number(),
             written: 0,

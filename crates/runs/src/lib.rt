@@ -45,10 +45,7 @@ pub fn copy_text(chars: &mut [u8], bytes: &[u8], from: usize, cell: usize) -> St
     for n in 0..most {
         let b = bytes[from + n];
         if !is_text(b) {
-            return Stretch {
-                count: n,
-                changed,
-            };
+            return Stretch { count: n, changed };
         }
         if chars[cell + n] != b % 128 {
             changed = true;
