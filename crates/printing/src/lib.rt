@@ -12,7 +12,7 @@ use std::io::{Error, Result, Stderr, Stdout};
 
 // The page, at whose start bytes wait (std's writers with a buffer ask for an allocator), whether every write so far was taken, where the text goes, and where a failure is told. After a write that failed nothing more is
 // written.
-#[derive(Drop)]
+#[derive(Clone, Copy)]
 pub struct Output {
     page: [u8; 8192],
     waiting: usize,
