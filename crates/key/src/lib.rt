@@ -229,9 +229,9 @@ fn send(key: Key, reply: &mut [u8]) -> usize
     0
 }
 
-// A key, in a memory of `rows` rows. The answer begins as what a refusal leaves, so that the state is copied once.
+// A key, in a memory of `rows` rows. One place puts the answer together, of a refused key too.
 pub fn key_on(
-    t: Terminal,
+    mut t: Terminal,
     rows: usize,
     chars: &mut [u8],
     attrs: &mut [u8],
@@ -241,19 +241,20 @@ pub fn key_on(
     requires { (24 ≤ rows) × (rows ≤ 96) }
     ensures { key_left result chars.new attrs.new reply.new ≡ keyed rows (world t chars.old attrs.old) reply.old code }
 {
-    let mut answer = KeyAnswer {
-        number: 0,
-        written: 0,
-        state: t,
-    };
+    let mut number = 0;
+    let mut written = 0;
     match admit(t, rows, chars, attrs, code, reply.len()) {
         Ok(key) => {
-            answer.state = press(t, rows, chars, attrs, key);
-            answer.written = send(key, reply);
+            t = press(t, rows, chars, attrs, key);
+            written = send(key, reply);
         }
-        Err(refusal) => answer.number = refusal.number(),
+        Err(refusal) => number = refusal.number(),
     }
-    answer
+    KeyAnswer {
+        number,
+        written,
+        state: t,
+    }
 }
 
 // A key, in a memory of a size. Takes any state, any buffers and any code; a refusal changes nothing. ENTER writes byte 18 to the reply.

@@ -1,5 +1,5 @@
 -- `key::edit_of` meets its contract: text by its code, the others by their names. Assumes nothing.
-use mathlib.Core.Path.{refl, sym, ◌∙◌}
+use mathlib.Core.Path.{refl, sym}
 use native.Mathlib.Omega.{arith}
 use Rattle.key.specs.Pressed.{edits}
 use Rattle.key.proofs.Named.{writes-not}

@@ -1,6 +1,6 @@
 -- `key::look` meets its contract: a key that writes by its action, and every other key leaves the memory. Assumes nothing.
 use Prim.Native.Nat.{ℕ, ◌%◌}
-use mathlib.Core.Path.{◌≡◌, refl, sym, ap, ◌∙◌}
+use mathlib.Core.Path.{◌≡◌, refl, ap, ◌∙◌}
 use Rattle.changes.specs.Sets.{set_of}
 use Rattle.terminal.specs.State.{World, world}
 use Rattle.terminal.specs.Acts.{acted}
