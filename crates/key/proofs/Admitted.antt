@@ -6,7 +6,7 @@ use mathlib.Core.List.{List, [], ◌∷◌}
 use lib.ListN.{length, set}
 use lib.Dec.{eqb}
 use borrow.Author.Tests.{ne_eqb}
-use Rattle.std.specs.Prelude.{Result, Ok, Err}
+use Rattle.std.specs.Prelude.{Result, Ok, Err, Some, None}
 use Rattle.terminal.specs.declared.refusal.Refusal.{Refusal}
 use Rattle.reading.specs.Action as Action
 use Rattle.terminal.specs.State.{World, is_good, is_sized, barred}
@@ -19,6 +19,7 @@ use Rattle.key.specs.declared.codes.Key.{Key}
 use Rattle.key.specs.declared.codes.Key.TheVariants.{Enter}
 use Rattle.key.specs.Keys.{key_action, enter, key_refusal, Keyed, key_done, keyed}
 use Rattle.key.specs.Codes.{code_of, Sendable, tested, late_refusal}
+use Rattle.key.specs.Pressed.{pressed_world}
 use Rattle.key.proofs.Named.{acts}
 use Rattle.key.proofs.Kept.{KeyReady, key-ready}
 
@@ -64,8 +65,8 @@ module _ (rows : ℕ) (w : World) (reply : List ℕ) where
   parted false v = refl
 
   module _ (code : ℕ) {r : Result Key Refusal} (h : tested r ≡ key_refusal rows w code (length reply)) where
-    pub refused-left : {e : Refusal} {n : ℕ} → r ≡ Err e → n ≡ number_of e → ◌≡◌ {A = Keyed} (record { number = n; written = 0; world = w; reply = reply }) (keyed rows w reply code)
-    unfolding keyed
+    pub refused-left : {e : Refusal} {n : ℕ} → r ≡ Err e → n ≡ number_of e → ◌≡◌ {A = Keyed} (record { number = n; written = 0; world = pressed_world rows None w; reply = reply }) (keyed rows w reply code)
+    unfolding keyed pressed_world
     refused-left {e} {n} t m = let k = m ∙ sym (ap tested t) ∙ h in rw (← k, ne_eqb n 0 (λ z. not-done e (sym m ∙ z))) refl
 
     module _ {key : Key} (t : r ≡ Ok key) where
@@ -75,6 +76,15 @@ module _ (rows : ℕ) (w : World) (reply : List ℕ) where
       pub roomy : code_of key ≡ code → rows ≤ 96 → key ≡ Enter → 0 < length reply
       roomy e few k = (ready few).room_in (sym e ∙ ap code_of k)
 
-      pub done-left : code_of key ≡ code → Left (code_of key) ≡ keyed rows w reply code
+      left : code_of key ≡ code → Left (code_of key) ≡ keyed rows w reply code
       unfolding keyed key_done
-      done-left e = let k = sym h ∙ ap tested t in ap Left e ∙ rw k (parted (eqb code enter) (noted rows w (acted rows (key_action code w.state.insert) (code % 256) w)))
+      left e = let k = sym h ∙ ap tested t in ap Left e ∙ rw k (parted (eqb code enter) (noted rows w (acted rows (key_action code w.state.insert) (code % 256) w)))
+
+      pub done-left : code_of key ≡ code → {n : ℕ} → n ≡ 0 → ◌≡◌ {A = Keyed} (record {
+        number = n;
+        written = cond (eqb (code_of key) enter) 1 0;
+        world = pressed_world rows (Some key) w;
+        reply = cond (eqb (code_of key) enter) (set reply 0 18) reply;
+      }) (keyed rows w reply code)
+      unfolding keyed key_done pressed_world
+      done-left e z = rw z (left e)

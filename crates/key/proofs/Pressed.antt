@@ -8,7 +8,9 @@ use native.Mathlib.Omega.{arith}
 use lib.ListN.{replicate}
 use lib.Dec.{leb, eqb}
 use borrow.Author.Tests.{ne_eqb, leb-true}
+use Rattle.std.specs.Prelude.{Option, Some, None}
 use Rattle.cells.specs.Range.{within}
+use Rattle.cells.proofs.Search.{not-both}
 use Rattle.cells.proofs.Patch.{eq-or}
 use Rattle.changes.specs.declared.Changes.{Changes}
 use Rattle.changes.specs.Sets.{set_of, either}
@@ -24,7 +26,9 @@ use Rattle.terminal.proofs.Noted.{noted-if}
 use Rattle.reading.specs.Action as Action
 use Rattle.reading.proofs.Rules.{either as cases}
 use Rattle.key.specs.Keys.{key_action}
-use Rattle.key.specs.Pressed.{pressed, edits}
+use Rattle.key.specs.declared.codes.Key.{Key}
+use Rattle.key.specs.Codes.{code_of}
+use Rattle.key.specs.Pressed.{pressed, struck_by, pressed_world, edits}
 
 -- ---- a text key's code is no other key's
 pub text-not : (k code : ℕ) → 126 < k → within 32 126 code ≡ true → eqb code k ≡ false
@@ -66,6 +70,16 @@ pub pressed-left : (rows code : ℕ) (w : World) {u : World} {found joined : Cha
 pressed-left rows code w {u} {found} s e f j k =
     let g : found ≡ set_of (differing_rows rows w u) = f ∙ ap (λ (x : World). set_of (differing_rows rows w x)) (sym e) in
     noted-if true w (struck rows code w) (λ _. s.good) e g j k
+
+-- the same of a key that is done, or of none
+pub pressed-done : (rows : ℕ) (w : World) (done : Option Key) {u : World} {found joined : Changes} → ((key : Key) → done ≡ Some key → Sound rows w)
+    → u ≡ struck_by rows done w → found ≡ set_of (differing_rows rows w (struck_by rows done w))
+    → ((l m : List Bool) → w.state.changes ≡ set_of l → found ≡ set_of m → joined ≡ set_of (either l m))
+    → ((n : ℕ) → found ≡ set_of (replicate n false) → joined ≡ w.state.changes)
+    → stated u (flagged u.state joined) ≡ pressed_world rows done w
+unfolding struck_by pressed_world
+pressed-done rows w (Some key) s e f j k = pressed-left rows (code_of key) w (s key refl) e f j k
+pressed-done rows w None s e f j k = noted-if false w w (λ h. absurd (not-both h refl)) e (f ∙ ap (λ (x : World). set_of (differing_rows rows w x)) (sym e)) j k
 
 -- ---- the keys that write, and those that leave the memory
 pub edits-action : (code : ℕ) (insert : Bool) → (edits code ≡ Action.rest → ⊥) → edits code ≡ key_action code insert

@@ -12,11 +12,12 @@ ghost use Rattle.terminal.specs.State.{world, Sound};
 ghost use Rattle.terminal.specs.Acts.{tabbed_by, back_tabbed_by, acted};
 ghost use Rattle.terminal.specs.Noted.{differing_rows, noted};
 ghost use Rattle.terminal.specs.Numbers.{answered};
+ghost use Rattle.key.specs.declared.codes.Key.{Key};
 ghost use Rattle.key.specs.declared.codes.Key.TheVariants.{Text, Enter};
 ghost use Rattle.key.specs.Keys.{key_action, enter, key_refusal, key_left, keyed};
 ghost use Rattle.key.specs.Aim.{aim_refusal};
 ghost use Rattle.key.specs.Codes.{code_of, Sendable, tested, late_refusal};
-ghost use Rattle.key.specs.Pressed.{pressed, edits};
+ghost use Rattle.key.specs.Pressed.{pressed, inserted, asked, pressed_by, struck_by, pressed_world, edits};
 
 use changes::Changes;
 use codes::Key;
@@ -201,16 +202,76 @@ fn ask(key: Key, pending: u8) -> u8
     if key == Key::Enter { 4 } else { pending }
 }
 
-// What a key does. The state is put together here alone, so that it is not copied from call to call.
-fn press(mut t: Terminal, rows: usize, chars: &mut [u8], attrs: &mut [u8], key: Key) -> Terminal
-    requires sound { Sound rows (world t chars.old attrs.old) }
-    requires key { Sendable key }
-    ensures { world result chars.new attrs.new ≡ noted rows (world t chars.old attrs.old) (acted rows (key_action (code_of key) t.insert) (code_of key % 256) (world t chars.old attrs.old)) }
+// The rows that what is done will change.
+fn look_done(t: Terminal, rows: usize, chars: &[u8], attrs: &[u8], done: Option<Key>) -> Changes
+    requires sound { (key : Key) → done ≡ Some key → Sound rows (world t chars.now attrs.now) }
+    requires key { (key : Key) → done ≡ Some key → Sendable key }
+    ensures { result ≡ set_of (differing_rows rows (world t chars.now attrs.now) (struck_by rows done (world t chars.now attrs.now))) }
 {
-    let joined = t.changes.join(look(t, rows, chars, attrs, key));
-    t.cursor = strike(t, rows, chars, attrs, key);
-    t.insert = switch_insert(key, t.insert);
-    t.pending = ask(key, t.pending);
+    match done {
+        Some(key) => look(t, rows, chars, attrs, key),
+        None => Changes::none(),
+    }
+}
+
+// What it does to the memory, and where the cursor is after it.
+fn strike_done(
+    t: Terminal,
+    rows: usize,
+    chars: &mut [u8],
+    attrs: &mut [u8],
+    done: Option<Key>,
+) -> Cursor
+    requires sound { (key : Key) → done ≡ Some key → Sound rows (world t chars.old attrs.old) }
+    requires key { (key : Key) → done ≡ Some key → Sendable key }
+    ensures { world (pressed_by done result t) chars.new attrs.new ≡ struck_by rows done (world t chars.old attrs.old) }
+{
+    match done {
+        Some(key) => strike(t, rows, chars, attrs, key),
+        None => t.cursor,
+    }
+}
+
+// Insert mode after it.
+#[tactic(auto, unfolding(crate::specs::Pressed::inserted))]
+fn insert_done(done: Option<Key>, insert: bool) -> bool
+    requires { (key : Key) → done ≡ Some key → Sendable key }
+    ensures { result ≡ inserted done insert }
+{
+    match done {
+        Some(key) => switch_insert(key, insert),
+        None => insert,
+    }
+}
+
+// The pending transfer after it.
+#[tactic(auto, unfolding(crate::specs::Pressed::asked))]
+fn ask_done(done: Option<Key>, pending: u8) -> u8
+    requires { (key : Key) → done ≡ Some key → Sendable key }
+    ensures { result ≡ asked done pending }
+{
+    match done {
+        Some(key) => ask(key, pending),
+        None => pending,
+    }
+}
+
+// What a key does, or none: a refused key goes the same way. The state is put together here alone, so that it is not copied from call to call.
+fn press(
+    mut t: Terminal,
+    rows: usize,
+    chars: &mut [u8],
+    attrs: &mut [u8],
+    done: Option<Key>,
+) -> Terminal
+    requires sound { (key : Key) → done ≡ Some key → Sound rows (world t chars.old attrs.old) }
+    requires key { (key : Key) → done ≡ Some key → Sendable key }
+    ensures { world result chars.new attrs.new ≡ pressed_world rows done (world t chars.old attrs.old) }
+{
+    let joined = t.changes.join(look_done(t, rows, chars, attrs, done));
+    t.cursor = strike_done(t, rows, chars, attrs, done);
+    t.insert = insert_done(done, t.insert);
+    t.pending = ask_done(done, t.pending);
     t.changes = joined;
     t
 }
@@ -231,7 +292,7 @@ fn send(key: Key, reply: &mut [u8]) -> usize
 
 // A key, in a memory of `rows` rows. One place puts the answer together, of a refused key too.
 pub fn key_on(
-    mut t: Terminal,
+    t: Terminal,
     rows: usize,
     chars: &mut [u8],
     attrs: &mut [u8],
@@ -241,19 +302,19 @@ pub fn key_on(
     requires { (24 ≤ rows) × (rows ≤ 96) }
     ensures { key_left result chars.new attrs.new reply.new ≡ keyed rows (world t chars.old attrs.old) reply.old code }
 {
-    let mut number = 0;
-    let mut written = 0;
-    match admit(t, rows, chars, attrs, code, reply.len()) {
-        Ok(key) => {
-            t = press(t, rows, chars, attrs, key);
-            written = send(key, reply);
-        }
-        Err(refusal) => number = refusal.number(),
-    }
+    let (number, done) = match admit(t, rows, chars, attrs, code, reply.len()) {
+        Ok(key) => (0, Some(key)),
+        Err(refusal) => (refusal.number(), None),
+    };
+    let state = press(t, rows, chars, attrs, done);
+    let written = match done {
+        Some(key) => send(key, reply),
+        None => 0,
+    };
     KeyAnswer {
         number,
         written,
-        state: t,
+        state,
     }
 }
 
