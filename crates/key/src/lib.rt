@@ -142,10 +142,13 @@ fn strike(t: Terminal, rows: usize, chars: &mut [u8], attrs: &mut [u8], code: u1
         261 => screen::go_home_down(chars, rows, t.cursor),
         262 => tab(t, rows, attrs),
         263 => back_tab(t, rows, attrs),
-        264 => t.clear_display(rows, chars, attrs).cursor,
-        265 => t.clear_line(rows, chars, attrs).cursor,
+        264 => screen::clear_display(chars, attrs, rows, t.cursor, t.format),
+        265 => screen::clear_line(chars, attrs, rows, t.cursor, t.format),
         266 => t.cursor,
-        267 => t.delete_char(rows, chars, attrs).cursor,
+        267 => {
+            screen::delete_char(chars, attrs, rows, t.cursor, t.format);
+            t.cursor
+        }
         268 => t.cursor.go_in(0),
         269 => t.cursor.rise(rows, 1),
         270 => t.cursor.fall(1),

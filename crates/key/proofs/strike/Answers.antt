@@ -50,11 +50,11 @@ returns-in-263 c = rw c.in-263.is (gone c.args.t _ _ c.back_tab.ensures)
 
 pub returns-in-264 : goal.returns-in-264
 unfolding key_action pressed acted steered switched stamps
-returns-in-264 c = rw c.in-264.is (edited c.args.t c.clear_display.ensures)
+returns-in-264 c = rw c.in-264.is (typed_at c.args.t c.clear_display.ensures)
 
 pub returns-in-265 : goal.returns-in-265
 unfolding key_action pressed acted steered switched stamps
-returns-in-265 c = rw c.in-265.is (edited c.args.t c.clear_line.ensures)
+returns-in-265 c = rw c.in-265.is (typed_at c.args.t c.clear_line.ensures)
 
 pub returns-in-266 : goal.returns-in-266
 unfolding key_action pressed acted steered switched stamps
@@ -62,7 +62,7 @@ returns-in-266 c = let a = c.args in rw c.in-266.is (insert-over _ _ (world a.t 
 
 pub returns-in-267 : goal.returns-in-267
 unfolding key_action pressed acted steered switched stamps
-returns-in-267 c = rw c.in-267.is (edited c.args.t c.delete_char.ensures)
+returns-in-267 c = rw c.in-267.is (typed_at c.args.t c.delete_char.ensures)
 
 pub returns-in-268 : goal.returns-in-268
 unfolding key_action pressed acted steered switched stamps
