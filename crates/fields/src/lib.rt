@@ -40,7 +40,8 @@ fn first_mark(attrs: &[u8], from: usize, to: usize, highest: u8) -> Option<usize
     }
 }
 
-// The last of them, from the last row to the first, within each row from the last column.
+// The last of them, from the last row to the first, within each row from the last column. Out of line, so that its loop has the registers to itself.
+#[inline(never)]
 fn last_mark(attrs: &[u8], from: usize, to: usize, highest: u8) -> Option<usize>
     requires { (from ≤ to) × (to ≤ length attrs.now) }
     ensures { result ≡ last_in (is_in highest) (marks attrs.now) from to }
