@@ -14,32 +14,25 @@ pub fn run<R: Read>(out: &mut Output, is_48: bool, file: &mut R, name: &[u8]) {
             name,
             format_args!("1: the owner table has 256 bytes, here are {size}"),
         ),
-        None if is_48 => run_48(out, got.bytes, file, name),
-        None => run_96(out, got.bytes, file, name),
+        None => run_calls(out, is_48, got.bytes, file, name),
     }
 }
 
-// The calls, of a terminal of 96 rows.
-fn run_96<R: Read>(out: &mut Output, owners: &[u8], file: &mut R, name: &[u8]) {
+// The calls, of a terminal of 96 rows or of 48. A file that fails while it is read has no end line.
+fn run_calls<R: Read>(out: &mut Output, is_48: bool, owners: &[u8], file: &mut R, name: &[u8]) {
     let mut chars = [32u8; 7680];
     let mut attrs = [0u8; 7680];
     let mut reply = [0u8; 15360];
-    let mut machine = Machine::new(96, &mut chars, &mut attrs, owners, &mut reply);
-    run_on(out, &mut machine, file, name);
-}
-
-// The calls, of a terminal of 48 rows.
-fn run_48<R: Read>(out: &mut Output, owners: &[u8], file: &mut R, name: &[u8]) {
-    let mut chars = [32u8; 3840];
-    let mut attrs = [0u8; 3840];
-    let mut reply = [0u8; 7680];
-    let mut machine = Machine::new(48, &mut chars, &mut attrs, owners, &mut reply);
-    run_on(out, &mut machine, file, name);
-}
-
-// The calls to the end of the file, and the end line, which a file that fails while it is read has not.
-fn run_on<R: Read>(out: &mut Output, machine: &mut Machine, file: &mut R, name: &[u8]) {
-    match read(out, machine, file) {
+    let rows = if is_48 { 48 } else { 96 };
+    let cells = rows * 80;
+    let mut machine = Machine::new(
+        rows,
+        &mut chars[..cells],
+        &mut attrs[..cells],
+        owners,
+        &mut reply[..2 * cells],
+    );
+    match read(out, &mut machine, file) {
         Ok(()) => machine.end(out),
         Err(error) => out.fail(name, &error),
     }
