@@ -41,7 +41,7 @@ fn report_lines(
         let answer = host::host_on(state, rows, chars, attrs, line, reply);
         let told = report::report_on(answer.state, rows);
         state = told.state;
-        sum = sum.wrapping_add(told.count as u64);
+        sum = sum.wrapping_add(told.count as u64) % 4294967296;
     }
     (sum, state)
 }

@@ -21,12 +21,18 @@ fn fill_differs(s: &[u8], from: usize, to: usize, v: u8) -> bool
     seen
 }
 
-// Whether the `n` cells from `a` on differ from those from `b` on.
+// Whether the `n` cells from `a` on differ from those from `b` on. A loop and not `!=` of two parts: without an early exit it becomes vector code.
 fn copy_differs(s: &[u8], a: usize, b: usize, n: usize) -> bool
     requires { (a + n ≤ length s.now) × (b + n ≤ length s.now) }
     ensures { result ≡ differs s.now (patch s.now a (a + n) (λ k. get_or s.now (b + (k - a)) 0)) }
 {
-    s[a..a + n] != s[b..b + n]
+    let mut seen = false;
+    for i in 0..n {
+        if s[a + i] != s[b + i] {
+            seen = true;
+        }
+    }
+    seen
 }
 
 // Whether a shift right changes a cell.
@@ -45,13 +51,17 @@ pub fn shift_left_differs(s: &[u8], from: usize, to: usize, v: u8) -> bool
     s[to - 1] != v || s[from..to - 1] != s[from + 1..to]
 }
 
-// Whether a post changes a cell.
+// Whether a post changes a cell. The text's cells one by one, left at the first that differs: a `!=` of two parts is a call.
 pub fn post_differs(s: &[u8], from: usize, to: usize, text: &[u8]) -> bool
     requires { (from ≤ to) × (to ≤ length s.now) × (length text.now ≤ to - from) }
     ensures { result ≡ differs s.now (posted s.now from to text.now) }
 {
-    let end = from + text.len();
-    &s[from..end] != text || fill_differs(s, end, to, 32)
+    for i in 0..text.len() {
+        if s[from + i] != text[i] {
+            return true;
+        }
+    }
+    fill_differs(s, from + text.len(), to, 32)
 }
 
 // Whether a cell changes where all become blank with attribute 0.

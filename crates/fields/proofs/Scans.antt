@@ -1,6 +1,6 @@
--- What the scans cite: a search of the marks is one of the attribute bytes; a cell's kind, onward; tab and back tab.
+-- What the scans cite: a search of the marks is one of the attribute bytes; a cell's kind, back from the cell and onward; tab and back tab.
 -- Assumes nothing.
-use Prim.Native.Nat.{ℕ, ◌+◌, ◌-◌, ◌%◌, ◌<◌}
+use Prim.Native.Nat.{ℕ, ◌+◌, ◌-◌, ◌%◌, ◌≤◌, ◌<◌}
 use mathlib.Core.Path.{◌≡◌, refl, ap, sym, ◌∙◌}
 use mathlib.Core.Bool.{Bool, true, false, cond}
 use mathlib.Core.List.{List}
@@ -8,10 +8,10 @@ use native.Mathlib.Omega.{arith}
 use lib.Dec.{eqb}
 use lib.ListN.{length, get_or}
 use Rattle.cells.specs.Search.{first_in, last_in, count_in, nth_of}
-use Rattle.cells.proofs.Search.{first-map, last-map, count_map, nth-map, first_short, last-short, else-first, else-second}
+use Rattle.cells.proofs.Search.{first-map, last-map, count_map, nth-map, first_short, last-short, else-first, else-second, Downto, down-hit, down-end}
 use Rattle.std.specs.Prelude.{Option, Some, None}
 use Rattle.std.specs.Option.{option_or}
-use Rattle.fields.specs.Fields.{mark_of, marks, is_in, kind_at, unprotected, next_start, prev_start}
+use Rattle.fields.specs.Fields.{mark_of, marks, is_in, start_of_row, mark_found, kind_at, unprotected, next_start, prev_start}
 use Rattle.fields.specs.Walk.{kind_after}
 use Rattle.fields.proofs.Marks.{mark-at, length-marks}
 use Rattle.fields.proofs.Kind.{kind-step}
@@ -36,6 +36,16 @@ module _ (highest : ℕ) (attrs : List ℕ) where
   pub nth-marks : (n : ℕ) → nth_of (has_mark highest) n 0 attrs ≡ nth_of (is_in highest) n 0 (marks attrs)
   unfolding marks
   nth-marks n = sym (nth-map (is_in highest) mark_of n 0 attrs)
+
+-- ---- back from the cell: the first mark met governs it, and none where its row has none up to it
+module _ {attrs : List ℕ} {i : ℕ} (cell : ℕ) (d : Downto (has_mark 5) 0 attrs (start_of_row cell) (cell + 1) i) where
+  pub kind-hit : start_of_row cell < i → has_mark 5 (get_or attrs (i - 1) 0) ≡ true → mark_of (get_or attrs (i - 1) 0) ≡ kind_at (marks attrs) cell
+  unfolding kind_at
+  kind-hit l t = sym (mark-at attrs (i - 1)) ∙ ap (mark_found (marks attrs)) (down-hit {j = i - 1} d (omega arith) t (omega arith) ∙ last-marks 5 attrs (start_of_row cell) (cell + 1))
+
+  pub kind-none : i ≤ start_of_row cell → 0 ≡ kind_at (marks attrs) cell
+  unfolding kind_at
+  kind-none l = ap (mark_found (marks attrs)) (down-end d l ∙ last-marks 5 attrs (start_of_row cell) (cell + 1))
 
 -- ---- onward from a cell: the kind at hand, with the mark of cell i, gives the kind of cell i
 pub record Onward (attrs : List ℕ) (i kind : ℕ) : Type 0 where

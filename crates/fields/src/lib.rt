@@ -40,7 +40,8 @@ fn first_mark(attrs: &[u8], from: usize, to: usize, highest: u8) -> Option<usize
     }
 }
 
-// The last of them, from the last row to the first, within each row from the last column.
+// The last of them, from the last row to the first, within each row from the last column. Out of line, so that its loop has the registers to itself.
+#[inline(never)]
 fn last_mark(attrs: &[u8], from: usize, to: usize, highest: u8) -> Option<usize>
     requires { (from ≤ to) × (to ≤ length attrs.now) }
     ensures { result ≡ last_in (is_in highest) (marks attrs.now) from to }
@@ -98,16 +99,19 @@ pub fn kind_after(i: usize, before: u8, mark: u8) -> u8
     before
 }
 
-// The mark that governs a cell. It stays a number: four bits of a lent byte, any of sixteen.
+// The mark that governs a cell. It stays a number: four bits of a lent byte, any of sixteen. The cells lie in one row: a `for` of its own, and no search over
+// rows.
 pub fn kind_at(attrs: &[u8], cell: usize) -> u8
     requires { cell < length attrs.now }
     ensures { result ≡ kind_at (marks attrs.now) cell }
 {
-    let at = last_mark(attrs, cell / 80 * 80, cell + 1, 5);
-    match at {
-        Some(i) => attrs[i] % 16,
-        None => 0,
+    for i in (cell / 80 * 80..cell + 1).rev() {
+        let mark = attrs[i] % 16;
+        if is_in(5, mark) {
+            return mark;
+        }
     }
+    0
 }
 
 // Whether a cell is unprotected.
@@ -118,13 +122,18 @@ pub fn is_unprotected(attrs: &[u8], cell: usize) -> bool
     is_in(3, kind_at(attrs, cell))
 }
 
-// The cell past the last of the field that holds a cell.
+// The cell past the last of the field that holds a cell. As in `kind_at` the cells lie in one row, so no search over rows.
 pub fn field_end(attrs: &[u8], cell: usize) -> usize
     requires { cell / 80 * 80 + 80 ≤ length attrs.now }
     ensures { result ≡ field_end (marks attrs.now) cell }
 {
     let end = cell / 80 * 80 + 80;
-    first_mark(attrs, cell + 1, end, 5).unwrap_or(end)
+    for i in cell + 1..end {
+        if has_mark(attrs[i], 5) {
+            return i;
+        }
+    }
+    end
 }
 
 // How many of the 16 cells from `from` on have a mark 1 to 3. No early exit and no chain: this loop becomes vector code, which `filter(..).count()` does not.

@@ -131,7 +131,7 @@ pub fn host_on(
     requires { (24 ≤ rows) × (rows ≤ 96) }
     ensures { host_left result chars.new attrs.new reply.new ≡ fed rows (world t chars.old attrs.old) bytes.now reply.old }
 {
-    if let Err(refusal) = t.check(rows, chars, attrs) {
+    if let Err(refusal) = streams::refuse(t, rows, chars, attrs) {
         return HostAnswer {
             number: refusal.number(),
             taken: 0,

@@ -1,58 +1,56 @@
--- A key that is not refused is done with its code and finds a sound world; a refused one leaves all. Assumes nothing.
+-- A key that is not refused is done with its code and finds a sound world; a refused one is done with code 0, which leaves all. Assumes nothing.
 use Prim.Native.Nat.{ℕ, ◌%◌, ◌≤◌, ◌<◌}
 use mathlib.Core.Path.{◌≡◌, refl, sym, ap, ◌∙◌}
-use mathlib.Core.Bool.{Bool, true, false, cond, not}
-use mathlib.Core.List.{List, [], ◌∷◌}
+use mathlib.Core.Logic.{◌⊎◌, inl, inr}
+use mathlib.Core.Bool.{Bool, true, false, cond}
+use mathlib.Core.List.{List}
+use native.Mathlib.Omega.{arith}
 use lib.ListN.{length, set}
 use lib.Dec.{eqb}
-use borrow.Author.Tests.{ne_eqb}
-use Rattle.std.specs.Prelude.{Result, Ok, Err}
-use Rattle.terminal.specs.declared.refusal.Refusal.{Refusal}
+use borrow.Author.Tests.{eq-eqb, ne_eqb}
+use Rattle.cells.proofs.Patch.{eq-or}
+use Rattle.terminal.specs.State.{World, Sound}
 use Rattle.reading.specs.Action as Action
-use Rattle.terminal.specs.State.{World, is_good, is_sized, barred}
 use Rattle.terminal.specs.Acts.{acted}
 use Rattle.terminal.specs.Noted.{noted}
-use Rattle.terminal.specs.Numbers.{number_of}
-use Rattle.terminal.specs.Refusals.{◌when◌, first_refusal}
-use Rattle.terminal.proofs.Refusals.{not-done, closed}
-use Rattle.key.specs.declared.codes.Key.{Key}
-use Rattle.key.specs.declared.codes.Key.TheVariants.{Enter}
 use Rattle.key.specs.Keys.{key_action, enter, key_refusal, Keyed, key_done, keyed}
-use Rattle.key.specs.Codes.{code_of, Sendable, tested, late_refusal}
-use Rattle.key.proofs.Named.{acts}
 use Rattle.key.proofs.Kept.{KeyReady, key-ready}
 
--- ---- the tests before the last ones
-module _ (rows : ℕ) (w : World) (code room : ℕ) where
-  pub early : (e : Refusal) → number_of e ≡ first_refusal ((1 when not (is_sized rows w.chars w.attrs)) ∷ (2 when not (is_good rows w.state)) ∷ []) → number_of e ≡ key_refusal rows w code room
-  unfolding key_refusal
-  early e h = closed (is_sized rows w.chars w.attrs) (is_good rows w.state) _ e h
+-- code 0 is not listed
+listed-not-zero : (w : World) (code : ℕ) → (key_action code w.state.insert ≡ Action.rest → ⊥) → code ≡ 0 → ⊥
+unfolding key_action
+listed-not-zero w code h z = h (ap (λ (c : ℕ). key_action c w.state.insert) z)
 
-  module _ (s : is_sized rows w.chars w.attrs ≡ true) (g : is_good rows w.state ≡ true) where
-    pub not-listed : key_action code w.state.insert ≡ Action.rest → 3 ≡ key_refusal rows w code room
-    unfolding key_refusal first_refusal
-    not-listed e = rw (s, g, e)
+module _ (rows : ℕ) (w : World) (code room : ℕ) {n done : ℕ} (few : rows ≤ 96) (e : n ≡ key_refusal rows w code room) (d : done ≡ cond (eqb n 0) code 0) where
+  -- the code and what its tests say, or 0
+  abbrev Admitted : Type 0
+  Admitted = ((n ≡ 0) × (done ≡ code) × KeyReady rows w code room) ⊎ ((n ≡ 0 → ⊥) × (done ≡ 0))
 
-    module _ {key : Key} (e : code_of key ≡ code) (k : Sendable key) where
-      listed : eqb (key_action code w.state.insert) Action.rest ≡ false
-      listed = rw e at (acts key k w.state.insert)
+  admitted : Admitted
+  admitted = elim (eq-or n 0) [
+    | inl z ↦ inl (z, rw (eq-eqb n 0 z) at d, key-ready rows w code room few (sym e ∙ z))
+    | inr z ↦ inr (z, rw (ne_eqb n 0 z) at d)
+  ]
 
-      pub barred-first : barred w.state ≡ true → 4 ≡ key_refusal rows w code room
-      unfolding key_refusal first_refusal
-      barred-first b = rw (s, g, listed, b)
+  pub admitted-sound : (done ≡ 0 → ⊥) → Sound rows w
+  admitted-sound h = elim admitted [
+    | inl r ↦ r.2.sound
+    | inr r ↦ absurd (h r.1)
+  ]
 
-      pub late : barred w.state ≡ false → late_refusal w.state w.attrs (code_of key) room ≡ key_refusal rows w code room
-      unfolding key_refusal late_refusal first_refusal
-      late b = rw (s, g, listed, b, e)
+  pub admitted-room : done ≡ 273 → 0 < room
+  admitted-room h = elim admitted [
+    | inl r ↦ r.2.room_in (omega (arith, r.1))
+    | inr r ↦ absurd (omega (arith, r.1))
+  ]
 
--- ---- what the call leaves
-module _ (rows : ℕ) (w : World) (reply : List ℕ) where
-  -- where it is done
+module _ (rows : ℕ) (w : World) (reply : List ℕ) (code : ℕ) {n done : ℕ} (few : rows ≤ 96) (e : n ≡ key_refusal rows w code (length reply)) (d : done ≡ cond (eqb n 0) code 0) where
+  -- what the call leaves
   abbrev Left : ℕ → Keyed
   Left c = record {
-    number = 0;
+    number = n;
     written = cond (eqb c enter) 1 0;
-    world = noted rows w (acted rows (key_action c w.state.insert) (c % 256) w);
+    world = cond (eqb c 0) w (noted rows w (acted rows (key_action c w.state.insert) (c % 256) w));
     reply = cond (eqb c enter) (set reply 0 18) reply;
   }
 
@@ -63,18 +61,11 @@ module _ (rows : ℕ) (w : World) (reply : List ℕ) where
   parted true v = refl
   parted false v = refl
 
-  module _ (code : ℕ) {r : Result Key Refusal} (h : tested r ≡ key_refusal rows w code (length reply)) where
-    pub refused-left : {e : Refusal} {n : ℕ} → r ≡ Err e → n ≡ number_of e → ◌≡◌ {A = Keyed} (record { number = n; written = 0; world = w; reply = reply }) (keyed rows w reply code)
-    unfolding keyed
-    refused-left {e} {n} t m = let k = m ∙ sym (ap tested t) ∙ h in rw (← k, ne_eqb n 0 (λ z. not-done e (sym m ∙ z))) refl
-
-    module _ {key : Key} (t : r ≡ Ok key) where
-      pub ready : rows ≤ 96 → KeyReady rows w code (length reply)
-      ready few = key-ready rows w code (length reply) few (sym h ∙ ap tested t)
-
-      pub roomy : code_of key ≡ code → rows ≤ 96 → key ≡ Enter → 0 < length reply
-      roomy e few k = (ready few).room_in (sym e ∙ ap code_of k)
-
-      pub done-left : code_of key ≡ code → Left (code_of key) ≡ keyed rows w reply code
-      unfolding keyed key_done
-      done-left e = let k = sym h ∙ ap tested t in ap Left e ∙ rw k (parted (eqb code enter) (noted rows w (acted rows (key_action code w.state.insert) (code % 256) w)))
+  pub admitted-left : Left done ≡ keyed rows w reply code
+  unfolding keyed key_done
+  admitted-left = elim (admitted rows w code (length reply) few e d) [
+    | inl r ↦
+        ap Left r.1 ∙ rw (← e, r.0, ne_eqb code 0 (listed-not-zero w code r.2.listed))
+        (parted (eqb code enter) (noted rows w (acted rows (key_action code w.state.insert) (code % 256) w)))
+    | inr r ↦ ap Left r.1 ∙ rw (← e, ne_eqb n 0 r.0) refl
+  ]

@@ -65,7 +65,7 @@ high insert code h =
     far : (k : ℕ) → k < 274 → eqb code k ≡ false
     far k l = ne_eqb code k (λ z. omega arith)
 
-listed-ranged : (code : ℕ) (insert : Bool) → eqb (key_action code insert) rest ≡ not (ranged code)
+pub listed-ranged : (code : ℕ) (insert : Bool) → eqb (key_action code insert) rest ≡ not (ranged code)
 listed-ranged code insert = go (dec_lt code 274)
   where
     go : Dec (code < 274) → eqb (key_action code insert) rest ≡ not (ranged code)

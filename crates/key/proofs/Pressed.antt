@@ -7,9 +7,10 @@ use mathlib.Core.List.{List}
 use native.Mathlib.Omega.{arith}
 use lib.ListN.{replicate}
 use lib.Dec.{leb, eqb}
-use borrow.Author.Tests.{ne_eqb, leb-true}
+use borrow.Author.Tests.{eq-eqb, ne_eqb, leb-true}
 use Rattle.cells.specs.Range.{within}
 use Rattle.cells.proofs.Patch.{eq-or}
+use Rattle.cells.proofs.Search.{not-both}
 use Rattle.changes.specs.declared.Changes.{Changes}
 use Rattle.changes.specs.Sets.{set_of, either}
 use Rattle.changes.specs.Differing.{differing_both}
@@ -26,9 +27,12 @@ use Rattle.reading.proofs.Rules.{either as cases}
 use Rattle.key.specs.Keys.{key_action}
 use Rattle.key.specs.Pressed.{pressed, edits}
 
--- ---- a text key's code is no other key's
+-- ---- a text key's code is no other key's, and not 0
 pub text-not : (k code : ℕ) → 126 < k → within 32 126 code ≡ true → eqb code k ≡ false
 text-not k code h e = let l = leb-true code 126 ((and-eq-true_iff (leb 32 code) _).0 e).1 in ne_eqb code k (λ z. omega arith)
+
+pub text-not-zero : (code : ℕ) → within 32 126 code ≡ true → code ≡ 0 → ⊥
+text-not-zero code e z = let l = leb-true 32 code ((and-eq-true_iff (leb 32 code) _).0 e).0 in omega arith
 
 -- ---- the state with the cursor that a move gives, and with the page that an edit gives
 pub gone : (t : Terminal) (chars attrs : List ℕ) {c r : Cursor} → r ≡ c → world (placed t r) chars attrs ≡ world (placed t c) chars attrs
@@ -45,6 +49,11 @@ module _ (t : Terminal) where
   pub typed_at : {c : Cursor} {chars attrs : List ℕ} {p : Page} → page c chars attrs ≡ p → over (page c chars attrs) ≡ over p
   typed_at e = ap over e
 
+-- ---- a code that is not listed does nothing
+pub nothing-done : (rows : ℕ) (w : World) (code : ℕ) → eqb code 266 ≡ false → eqb code 273 ≡ false → key_action code w.state.insert ≡ Action.rest → world (pressed code w.state.cursor w.state) w.chars w.attrs ≡ acted rows (key_action code w.state.insert) (code % 256) w
+unfolding pressed acted steered switched stamps
+nothing-done rows w code f g e = rw (f, g, e)
+
 -- ---- 266 changes insert mode over
 pub insert-over : (rows v : ℕ) (w : World) → world (pressed 266 w.state.cursor w.state) w.chars w.attrs ≡ acted rows (key_action 266 w.state.insert) v w
 unfolding pressed key_action acted steered switched stamps
@@ -54,18 +63,26 @@ insert-over rows v w = go w.state.insert refl
     go true e = rw e
     go false e = rw e
 
+-- ---- code 0 does nothing
+unlisted-leaves : (rows : ℕ) (w : World) → acted rows (key_action 0 w.state.insert) (0 % 256) w ≡ w
+unfolding key_action acted steered switched stamps
+unlisted-leaves rows w = refl
+
 -- ---- a key's rows joined to those of the state
 abbrev struck : ℕ → ℕ → World → World
 struck rows code w = acted rows (key_action code w.state.insert) (code % 256) w
 
-pub pressed-left : (rows code : ℕ) (w : World) {u : World} {found joined : Changes} → Sound rows w
+pub pressed-left : (rows code : ℕ) (w : World) {u : World} {found joined : Changes} → ((code ≡ 0 → ⊥) → Sound rows w)
     → u ≡ struck rows code w → found ≡ set_of (differing_rows rows w (struck rows code w))
     → ((l m : List Bool) → w.state.changes ≡ set_of l → found ≡ set_of m → joined ≡ set_of (either l m))
     → ((n : ℕ) → found ≡ set_of (replicate n false) → joined ≡ w.state.changes)
-    → stated u (flagged u.state joined) ≡ noted rows w (struck rows code w)
+    → stated u (flagged u.state joined) ≡ cond (eqb code 0) w (noted rows w (struck rows code w))
 pressed-left rows code w {u} {found} s e f j k =
     let g : found ≡ set_of (differing_rows rows w u) = f ∙ ap (λ (x : World). set_of (differing_rows rows w x)) (sym e) in
-    noted-if true w (struck rows code w) (λ _. s.good) e g j k
+    elim (eq-or code 0) [
+      | inl z ↦ rw (eq-eqb code 0 z) (noted-if false w (struck rows code w) (λ h. absurd (not-both h refl)) (e ∙ ap (λ (c : ℕ). struck rows c w) z ∙ unlisted-leaves rows w) g j k)
+      | inr z ↦ rw (ne_eqb code 0 z) (noted-if true w (struck rows code w) (λ _. (s z).good) e g j k)
+    ]
 
 -- ---- the keys that write, and those that leave the memory
 pub edits-action : (code : ℕ) (insert : Bool) → (edits code ≡ Action.rest → ⊥) → edits code ≡ key_action code insert
@@ -83,6 +100,10 @@ edits-action code insert h = elim (true-or (within 32 126 code)) [
     ]
   ]
 ]
+
+pub edits-not-zero : (code : ℕ) → (edits code ≡ Action.rest → ⊥) → code ≡ 0 → ⊥
+unfolding edits
+edits-not-zero code h z = h (rw z)
 
 record Leaves (rows v : ℕ) (w : World) (a : ℕ) : Type 0 where
   chars_stay : (acted rows a v w).chars ≡ w.chars

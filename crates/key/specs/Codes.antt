@@ -1,17 +1,11 @@
--- Only proofs and inner contracts need this: the keys by name and their codes, and the tests of a key that come last. Assumes nothing.
-use Rattle.std.specs.Prelude.{ℕ, ◌≡◌, Bool, true, ◌&&◌, List, [], ◌∷◌, Result, Ok, Err, MatchResult, is_none, ltb, eqb}
+-- Only proofs and inner contracts need this: the keys by name and their codes. Assumes nothing.
+use Rattle.std.specs.Prelude.{ℕ, ◌≡◌, Bool, true, Result, MatchResult}
 use Rattle.cells.specs.Range.{within}
-use Rattle.cursor.specs.Cursor.{cell_of}
-use Rattle.fields.specs.Fields.{marks, target}
 use Rattle.reading.specs.Action.{rest}
-use Rattle.terminal.specs.declared.refusal.Refusal.{Refusal}
-use Rattle.terminal.specs.declared.Terminal.{Terminal}
-use Rattle.terminal.specs.Numbers.{number_of}
-use Rattle.terminal.specs.Refusals.{◌when◌, first_refusal}
 use Rattle.key.specs.declared.codes.Unlisted.{Unlisted}
 use Rattle.key.specs.declared.codes.Key.{Key}
 use Rattle.key.specs.declared.codes.Key.TheVariants.{Text, Up, Down, Right, Left, Home, HomeDown, Tab, BackTab, ClearDisplay, ClearLine, Insert, DeleteChar, Column0, RollUp, RollDown, NextPage, PrevPage, Enter}
-use Rattle.key.specs.Keys.{key_action, enter, disallows}
+use Rattle.key.specs.Keys.{key_action}
 
 -- the code of a key
 abbrev pub code_of : Key → ℕ
@@ -42,20 +36,3 @@ Sendable key = (v : ℕ) → key ≡ Text v → within 32 126 v ≡ true
 -- the key with this code, or none for a code that is not listed
 abbrev pub Decodes : ℕ → Result Key Unlisted → Type 0
 Decodes code r = MatchResult r (λ key. (code_of key ≡ code) × Sendable key) (λ _. (insert : Bool) → key_action code insert ≡ rest)
-
--- the number of what the tests give: 0 where the key is to be done
-abbrev pub tested : Result Key Refusal → ℕ
-tested (Ok _) = 0
-tested (Err refusal) = number_of refusal
-
--- tests 5, 6 and 7
-unfoldable pub late_refusal : Terminal → List ℕ → ℕ → ℕ → ℕ
-late_refusal t attrs code room =
-    let ms = marks attrs in
-    let found = target ms (cell_of t.cursor) in
-    let aims = within 32 126 code && t.format in
-    first_refusal
-    ((5 when (aims && is_none found))
-    ∷ (6 when (aims && disallows ms code found))
-    ∷ (7 when (eqb code enter && ltb room 1))
-    ∷ [])

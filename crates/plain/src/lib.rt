@@ -70,7 +70,7 @@ pub fn host_on(
     ensures table { host_left result chars.new attrs.new reply.new ≡ fed rows (world t chars.old attrs.old) bytes.now reply.old }
     ensures plain { host_left result chars.new attrs.new reply.new ≡ plainly_fed rows (world t chars.old attrs.old) bytes.now reply.old }
 {
-    if let Err(refusal) = t.check(rows, chars, attrs) {
+    if let Err(refusal) = streams::refuse(t, rows, chars, attrs) {
         return HostAnswer {
             number: refusal.number(),
             taken: 0,

@@ -108,19 +108,12 @@ pub fn post_if(
     requires { (24 ≤ rows) × (rows ≤ 96) }
     ensures { post_left result chars.new attrs.now ≡ posted_if rows (world t chars.old attrs.now) owned field text.now }
 {
-    match post_to(t, rows, chars, attrs, owned, field, text) {
-        Ok(changes) => {
-            t.changes = t.changes.join(changes);
-            PostAnswer {
-                number: 0,
-                state: t,
-            }
-        }
-        Err(refusal) => PostAnswer {
-            number: refusal.number(),
-            state: t,
-        },
-    }
+    let (number, changes) = match post_to(t, rows, chars, attrs, owned, field, text) {
+        Ok(changes) => (0, changes),
+        Err(refusal) => (refusal.number(), Changes::none()),
+    };
+    t.changes = t.changes.join(changes);
+    PostAnswer { number, state: t }
 }
 
 // A post that names no reader, in a memory of `rows` rows.

@@ -12,7 +12,7 @@ use std::io::{Error, Result, Stderr, Stdout};
 
 // The page, at whose start bytes wait (std's writers with a buffer ask for an allocator), whether every write so far was taken, where the text goes, and where a failure is told. After a write that failed nothing more is
 // written.
-#[derive(Drop)]
+#[derive(Clone, Copy)]
 pub struct Output {
     page: [u8; 8192],
     waiting: usize,
@@ -51,14 +51,25 @@ impl Output {
 
     // Bytes as they are. More than a page of them are written at once.
     pub fn text(&mut self, bytes: &[u8]) {
-        let n = bytes.len();
-        if 8192 - self.waiting < n {
-            self.send();
-        }
         let start = self.waiting;
+        let n = bytes.len();
         if n <= 8192 - start {
             self.waiting = start + n;
-            self.page[start..start + n].copy_from_slice(bytes);
+            for (cell, byte) in self.page[start..start + n].iter_mut().zip(bytes) {
+                *cell = *byte;
+            }
+        } else {
+            self.turn(bytes);
+        }
+    }
+
+    // Bytes that the rest of the page is too short for: the page is sent, and they begin the next.
+    fn turn(&mut self, bytes: &[u8]) {
+        self.send();
+        let n = bytes.len();
+        if n <= 8192 {
+            self.waiting = n;
+            self.page[0..n].copy_from_slice(bytes);
         } else if self.is_well {
             let answer = self.stdout.write_all(bytes);
             self.settle(answer);
@@ -82,13 +93,12 @@ impl Output {
         let _ = fmt::Write::write(self, text);
     }
 
-    // Bytes in lower-case hexadecimal, by a table of its digits: `{:02x}` takes five times as long.
+    // Bytes in lower-case hexadecimal, 40 of them at a time.
     pub fn hex(&mut self, bytes: &[u8]) {
-        let digits = b"0123456789abcdef";
-        for byte in bytes {
-            let high = digits[(byte / 16) as usize];
-            let low = digits[(byte % 16) as usize];
-            self.text(&[high, low]);
+        for part in bytes.chunks(40) {
+            let mut pairs = [0u8; 80];
+            spell(part, &mut pairs);
+            self.text(&pairs[..2 * part.len().min(40)]);
         }
     }
 
@@ -117,4 +127,13 @@ impl fmt::Write for Output {
 fn complain<D: Display + Drop>(stderr: Stderr, what: &[u8], why: D) {
     let _ = stderr.write_all(what);
     let _ = eprintln!(stderr; ": {why}");
+}
+
+// The digits of up to 40 bytes, two a byte, by a table of them: `{:02x}` takes five times as long.
+fn spell(bytes: &[u8], pairs: &mut [u8; 80]) {
+    let digits = b"0123456789abcdef";
+    for (pair, byte) in pairs.chunks_exact_mut(2).zip(bytes) {
+        pair[0] = digits[(byte / 16) as usize];
+        pair[1] = digits[(byte % 16) as usize];
+    }
 }

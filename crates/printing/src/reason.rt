@@ -1,4 +1,6 @@
 // Why a call on a file failed, in words.
+ghost use Rattle.std.specs.Prelude.{◌≡◌, ◌≤◌, length, take};
+
 use std::fmt;
 use std::fmt::{Display, Formatter};
 use std::io::{Error, Write};
@@ -24,7 +26,10 @@ impl<'a> Display for Reason<'a> {
 }
 
 // What stands before the last blank with a `(` behind it, or all where there is none.
-fn before_number(text: &str) -> &str {
+fn before_number(text: &str) -> &str
+    ensures upper_bound { length result.now ≤ length text.now }
+    ensures beginning { result.now ≡ take (length result.now) text.now }
+{
     match text.rsplit_once(" (") {
         Some((words, _)) => words,
         None => text,

@@ -41,46 +41,31 @@ pub struct Asked {
     pub way: Way,
 }
 
-// What all words ask for together; nothing where one is bad, or `changes` stands beside `host` or `raw`.
+// What all words ask for together, each read once; nothing where one is bad, or `changes` stands beside `host` or `raw`.
 pub fn find(rt: &impl Env, program: Program) -> Option<Asked> {
-    let count = inputs::word_count(rt);
-    let has = |word: Word| (1..count).any(|i| read(rt, program, i) == word);
-    if has(Word::Bad) {
-        return None;
-    }
-    let is_host = has(Word::Host);
-    let is_raw = has(Word::Raw);
-    let task = match program {
-        Program::Session => Task::Lines {
-            is_plain: has(Word::Plain),
-        },
-        Program::Show if has(Word::Changes) => {
-            if is_host || is_raw {
-                return None;
-            }
-            Task::Changes
+    let mut files = 0usize;
+    let mut source = Source::Records;
+    let mut shown = Shown::Picture;
+    let mut size = Size::Rows96;
+    let mut is_plain = false;
+    let mut is_changes = false;
+    for i in 1..inputs::word_count(rt) {
+        match read(rt, program, i) {
+            Word::File => files = files.saturating_add(1),
+            Word::Raw => shown = Shown::Listing,
+            Word::Host => source = Source::Host,
+            Word::Changes => is_changes = true,
+            Word::Plain => is_plain = true,
+            Word::Small => size = Size::Rows48,
+            Word::Bad => return None,
         }
-        Program::Show => Task::Show(
-            if is_host {
-                Source::Host
-            } else {
-                Source::Records
-            },
-            if is_raw {
-                Shown::Listing
-            } else {
-                Shown::Picture
-            },
-        ),
+    }
+    let task = match (program, is_changes, source, shown) {
+        (Program::Session, ..) => Task::Lines { is_plain },
+        (Program::Show, false, ..) => Task::Show(source, shown),
+        (Program::Show, true, Source::Records, Shown::Picture) => Task::Changes,
+        (Program::Show, true, ..) => return None,
     };
-    let size = if has(Word::Small) {
-        Size::Rows48
-    } else {
-        Size::Rows96
-    };
-    let files = (1..count)
-        .filter(|i| read(rt, program, *i) == Word::File)
-        .count();
     Some(Asked {
         files,
         way: Way { task, size },

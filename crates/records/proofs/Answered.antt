@@ -64,4 +64,4 @@ pub whole-once : (rows : ℕ) (w : World) (r : List ℕ) {p : Part} → p ≡ re
 unfolding record_ran
 whole-once rows w r {p} e n =
     let z : p.written ≡ 0 + p.written = omega arith in
-    ap (λ (k : ℕ). ran p.number k p.world) z ∙ whole-last rows w r 0 0 (emptied rows) (emptied-long rows) e 0 (omega arith) n
+    ap (λ (k : ℕ). ran p.number k p.world) z ∙ whole-last rows w r 0 0 (emptied rows) (emptied-long rows) e 81 (omega arith) n

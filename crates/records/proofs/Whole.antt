@@ -37,16 +37,21 @@ module _ (rows : ℕ) (w : World) (r : List ℕ) (at sum : ℕ) (reply : List �
       let m : (record_part rows w r at (emptied rows)).number ≡ 7 → ⊥ = λ z. n (ap (λ (k : Part). k.number) as-emptied ∙ z) in
       rw (ne_eqb (record_part rows w r at (emptied rows)).number 7 m) (ap (λ (k : Part). ran k.number (sum + k.written) k.world) as-emptied)
 
-  -- after k calls of 81
-  module _ (k : ℕ) (l : k < 81) where
-    one_more : suc (81 - (k + 1)) ≡ 81 - k
+  module _ (calls : ℕ) (l : 0 < calls) where
+    one_more : suc (calls - 1) ≡ calls
     one_more = omega arith
 
-    pub whole-turn : p.number ≡ 7 → ran_from rows (81 - (k + 1)) p.world r p.at (sum + p.written) ≡ ran_from rows (81 - k) w r at sum
-    whole-turn s = turn (81 - (k + 1)) s ∙ ap (λ (n : ℕ). ran_from rows n w r at sum) one_more
+    pub whole-turn : p.number ≡ 7 → ran_from rows (calls - 1) p.world r p.at (sum + p.written) ≡ ran_from rows calls w r at sum
+    whole-turn s = turn (calls - 1) s ∙ ap (λ (n : ℕ). ran_from rows n w r at sum) one_more
 
-    pub whole-last : (p.number ≡ 7 → ⊥) → ran p.number (sum + p.written) p.world ≡ ran_from rows (81 - k) w r at sum
-    whole-last n = last (81 - (k + 1)) n ∙ ap (λ (n : ℕ). ran_from rows n w r at sum) one_more
+    pub whole-last : (p.number ≡ 7 → ⊥) → ran p.number (sum + p.written) p.world ≡ ran_from rows calls w r at sum
+    whole-last n = last (calls - 1) n ∙ ap (λ (n : ℕ). ran_from rows n w r at sum) one_more
+
+  -- after k calls of 81
+  pub turn-after : (k : ℕ) → k < 81 → p.number ≡ 7 → ran_from rows (81 - (k + 1)) p.world r p.at (sum + p.written) ≡ ran_from rows (81 - k) w r at sum
+  turn-after k l s =
+      let e : 81 - (k + 1) ≡ (81 - k) - 1 = omega arith in
+      ap (λ (n : ℕ). ran_from rows n p.world r p.at (sum + p.written)) e ∙ whole-turn (81 - k) (omega arith) s
 
 pub whole-none : (rows calls : ℕ) (w : World) (r : List ℕ) (at sum : ℕ) → calls ≡ 0 → ran 7 sum w ≡ ran_from rows calls w r at sum
 unfolding ran_from

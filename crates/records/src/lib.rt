@@ -270,6 +270,10 @@ pub fn run<S: Size>(t: Terminal, chars: &mut [u8], attrs: &mut [u8], bytes: &[u8
     ensures { ran_left result chars.new attrs.new ≡ record_ran S.size (world t chars.old attrs.old) bytes.now }
 {
     let rows = S::rows();
+    if rows == 48 {
+        let mut reply = [0u8; 7680];
+        return run_on(t, rows, chars, attrs, bytes, &mut reply, false);
+    }
     let mut reply = [0u8; 15360];
     run_on(
         t,

@@ -70,15 +70,21 @@ fn measure_fields(chars: &[u8], attrs: &[u8]) -> usize
     n
 }
 
-// The field that starts at cell `from`, whole, from byte `at` of the reply on; the cell past its last.
+// The field that starts at cell `from`, whole, from byte `at` of the reply on; the cell past its last. Each cell is looked at once.
 fn send_field(chars: &[u8], attrs: &[u8], from: usize, reply: &mut [u8], at: usize) -> usize
     requires memory { (length chars.now ≡ length attrs.now) × (from / 80 * 80 + 80 ≤ length attrs.now) }
     requires room { at + length (field_text chars.now (marks attrs.now) from) ≤ length reply.old }
     ensures past { result ≡ field_end (marks attrs.now) from }
     ensures sent { reply.new ≡ written reply.old at (field_text chars.now (marks attrs.now) from) }
 {
-    let end = fields::field_end(attrs, from);
-    cells::write_at(reply, at, &chars[from..end]);
+    let end = from / 80 * 80 + 80;
+    reply[at] = chars[from];
+    for i in from + 1..end {
+        if fields::has_mark(attrs[i], 5) {
+            return i;
+        }
+        reply[at + (i - from)] = chars[i];
+    }
     end
 }
 

@@ -91,13 +91,11 @@ module _ (rows : ℕ) (w : World) where
       go true false p q e = absurd (omega arith)
       go false g p q e = absurd (omega arith)
 
-  module _ {tested : Result Unit Refusal} (h : answered tested ≡ first_refusal ((1 when not (is_sized rows w.chars w.attrs)) ∷ (2 when not (is_good rows w.state)) ∷ [])) where
+  module _ {tested : Result Unit Refusal} (h : answered tested ≡ host_refusal rows w) where
     pub closed-by : (bytes reply : List ℕ) {e : Refusal} {n : ℕ} → tested ≡ Err e → n ≡ number_of e → hosted n 0 0 w reply ≡ fed rows w bytes reply
-    unfolding host_refusal
     closed-by bytes reply {e} t m = refused-by bytes reply (m ∙ sym (ap answered t) ∙ h) (λ z. not-done e (sym m ∙ z))
 
     pub opened-by : {u : Unit} → rows ≤ 96 → tested ≡ Ok u → Sound rows w
-    unfolding host_refusal
     opened-by few t = unrefused few (sym h ∙ ap answered t)
 
 pub fed-good : (rows : ℕ) (w : World) (bytes reply : List ℕ) → rows ≤ 96 → Good rows w.state → Good rows (fed rows w bytes reply).world.state

@@ -1,14 +1,15 @@
-// Host streams: what a byte sends, and the answer.
+// Host streams: when one is refused, what a byte sends, and the answer.
 #![tactic(auto)]
 
 ghost use Rattle.std.specs.Prelude.{◌≡◌, ◌+◌, ◌≤◌, length, leb};
 ghost use Rattle.cells.specs.Memory.{written};
 ghost use Rattle.reading.specs.Action.{number_of};
 ghost use Rattle.terminal.specs.State.{world, Sound};
-ghost use Rattle.streams.specs.Streams.{pending_reply, reply_to};
+ghost use Rattle.terminal.specs.Numbers.{answered};
+ghost use Rattle.streams.specs.Streams.{pending_reply, reply_to, host_refusal};
 
 use reading::Action;
-use terminal::Terminal;
+use terminal::{Refusal, Terminal};
 
 // The number, which stays a byte as docs/CALLS.md has it, the bytes taken, the bytes written to the reply, and the state afterwards.
 #[derive(Clone, Copy)]
@@ -17,6 +18,14 @@ pub struct HostAnswer {
     pub taken: usize,
     pub written: usize,
     pub state: Terminal,
+}
+
+// Refuses a stream with memories of another size, and with a state that is not good, in this order.
+pub fn refuse(t: Terminal, rows: usize, chars: &[u8], attrs: &[u8]) -> Result<(), Refusal>
+    requires { (24 ≤ rows) × (rows ≤ 96) }
+    ensures { answered result ≡ host_refusal rows (world t chars.now attrs.now) }
+{
+    t.check(rows, chars, attrs)
 }
 
 // How many bytes the pending transfer sends; its number may be any, so it is no enum.

@@ -1,21 +1,14 @@
--- `fields::kind_at` meets its contract: the last mark of the row up to the cell. Assumes nothing.
-use Prim.Native.Nat.{◌+◌, ◌*◌, ◌/◌}
-use mathlib.Core.Path.{sym, ap, ◌∙◌}
+-- `fields::kind_at` meets its contract: from the cell at hand up to the cell none is marked. Assumes nothing.
 use native.Mathlib.Omega.{arith}
-use Rattle.cells.proofs.Search.{last-range}
-use Rattle.fields.specs.Fields.{marks, is_in, mark_found, kind_at}
-use Rattle.fields.proofs.Marks.{mark-at}
+use Rattle.cells.proofs.Search.{down-next}
+use Rattle.fields.proofs.Scans.{kind-hit, kind-none}
 use Rattle.fields.proofs.kind_at.Goals as goal
 
-pub bounds-attrs-i : goal.bounds-attrs-i
-bounds-attrs-i c =
-    let a = c.args in
-    omega (arith, last-range (is_in 5) 0 (marks a.attrs.now) (a.cell / 80 * 80) (a.cell + 1) c.in-Some.i (sym c.last_mark-at.ensures ∙ c.in-Some.is))
+pub returns-then-is_in : goal.returns-then-is_in
+returns-then-is_in c = kind-hit _ c.loop-i.invariant (omega arith) (cc)
 
-pub returns-in-Some : goal.returns-in-Some
-unfolding kind_at
-returns-in-Some c = sym (mark-at c.args.attrs.now c.in-Some.i) ∙ ap (mark_found (marks c.args.attrs.now)) (sym c.in-Some.is ∙ c.last_mark-at.ensures)
+pub loop-i-preserved : goal.loop-i-preserved
+loop-i-preserved c = down-next c.loop-i.invariant (omega arith) (cc) (omega arith)
 
-pub returns-in-None : goal.returns-in-None
-unfolding kind_at
-returns-in-None c = ap (mark_found (marks c.args.attrs.now)) (sym c.in-None.is ∙ c.last_mark-at.ensures)
+pub returns : goal.returns
+returns c = kind-none _ c.loop-i.invariant (omega arith)

@@ -1,25 +1,27 @@
--- `key::edit_of` meets its contract: text by its code, the others by their names. Assumes nothing.
+-- `key::edit_of` meets its contract: a text key by the test for it, an arm by its code. Assumes nothing.
+use Rattle.std.proofs.Common.{rules, tests}
 use mathlib.Core.Path.{refl, sym, ◌∙◌}
 use native.Mathlib.Omega.{arith}
+use borrow.Author.Rules.{rules}
 use Rattle.key.specs.Pressed.{edits}
-use Rattle.key.proofs.Named.{writes-not}
 use Rattle.key.proofs.edit_of.Goals as goal
 
-pub returns-in-Text : goal.returns-in-Text
+pub returns-then-is_text : goal.returns-then-is_text
 unfolding edits
-returns-in-Text c = rw (c.in-Text.is, c.requires _ c.in-Text.is) (refl, λ e. omega arith)
+returns-then-is_text c = rw (sym c.is_text.ensures ∙ c.if-is_text.true) (refl, λ e. omega arith)
 
-pub returns-in-ClearDisplay : goal.returns-in-ClearDisplay
+pub returns-in-264 : goal.returns-in-264
 unfolding edits
-returns-in-ClearDisplay c = rw c.in-ClearDisplay.is (refl, λ e. omega arith)
+returns-in-264 c = rw c.in-264.is (refl, λ e. omega arith)
 
-pub returns-in-ClearLine : goal.returns-in-ClearLine
+pub returns-in-265 : goal.returns-in-265
 unfolding edits
-returns-in-ClearLine c = rw c.in-ClearLine.is (refl, λ e. omega arith)
+returns-in-265 c = rw c.in-265.is (refl, λ e. omega arith)
 
-pub returns-in-DeleteChar : goal.returns-in-DeleteChar
+pub returns-in-267 : goal.returns-in-267
 unfolding edits
-returns-in-DeleteChar c = rw c.in-DeleteChar.is (refl, λ e. omega arith)
+returns-in-267 c = rw c.in-267.is (refl, λ e. omega arith)
 
 pub returns-in_default : goal.returns-in_default
-returns-in_default c = sym (writes-not _ c.in_default.not-Text c.in_default.not-ClearDisplay c.in_default.not-ClearLine c.in_default.not-DeleteChar)
+unfolding edits
+returns-in_default c = search (tests, rules)

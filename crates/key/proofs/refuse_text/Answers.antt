@@ -9,7 +9,7 @@ use Rattle.key.proofs.refuse_text.Goals as goal
 
 pub returns-in_default : goal.returns-in_default
 unfolding aim_refusal first_refusal disallows
-returns-in_default c = rw (← c.find_target.ensures, c.in_default.is)
+returns-in_default c = rw (← c.find_target.ensures, c.in_default.is) c.number.ensures
 
 pub kind_at-kind-requires : goal.kind_at-kind-requires
 kind_at-kind-requires c = target-inside _ _ _ (omega arith) (sym c.find_target.ensures ∙ c.in-Some.is)
@@ -20,4 +20,4 @@ returns-then-allows c = rw (← c.find_target.ensures, c.in-Some.is, ← c.kind_
 
 pub returns-else-allows : goal.returns-else-allows
 unfolding aim_refusal first_refusal disallows
-returns-else-allows c = rw (← c.find_target.ensures, c.in-Some.is, ← c.kind_at-kind.ensures, ← c.allows.ensures, c.if-allows.false)
+returns-else-allows c = rw (← c.find_target.ensures, c.in-Some.is, ← c.kind_at-kind.ensures, ← c.allows.ensures, c.if-allows.false) c.number-else-allows.ensures

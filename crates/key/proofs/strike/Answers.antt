@@ -1,89 +1,116 @@
--- `key::strike` meets its contract: text by its code, each other key by its name. Assumes nothing.
-use mathlib.Core.Logic.{inl, inr}
+-- `key::strike` meets its contract: a text key by the test for it, an arm by its code, the last one by the codes that it refutes. Assumes nothing.
+use mathlib.Core.Path.{◌≡◌, refl, sym, ◌∙◌}
 use native.Mathlib.Omega.{arith}
+use borrow.Author.Tests.{ne_eqb}
+use Rattle.reading.specs.Action as Action
 use Rattle.terminal.specs.State.{world}
 use Rattle.terminal.specs.Acts.{switched, steered, stamps, acted}
 use Rattle.key.specs.Keys.{key_action}
 use Rattle.key.specs.Pressed.{pressed}
-use Rattle.key.proofs.Named.{text-byte}
-use Rattle.key.proofs.Pressed.{text-not, gone, edited, typed_at, insert-over}
+use Rattle.key.proofs.Pressed.{text-not, gone, edited, typed_at, nothing-done, insert-over}
 use Rattle.key.proofs.strike.Goals as goal
 
-pub returns-in-Text : goal.returns-in-Text
+pub returns-then-is_text : goal.returns-then-is_text
 unfolding key_action pressed acted
-returns-in-Text c =
-    let t = c.requires.key _ c.in-Text.is in
-    rw (c.in-Text.is, t, text-not 266 _ (omega arith) t, text-not 273 _ (omega arith) t, text-byte _ t) (typed_at c.args.t c.type_char.ensures)
+returns-then-is_text c =
+    let t = sym c.is_text.ensures ∙ c.if-is_text.true in
+    rw (t, text-not 266 _ (omega arith) t, text-not 273 _ (omega arith) t) (typed_at c.args.t c.type_char.ensures)
 
-pub returns-in-Up : goal.returns-in-Up
+pub returns-in-256 : goal.returns-in-256
 unfolding key_action pressed acted steered switched stamps
-returns-in-Up c = rw c.in-Up.is (gone c.args.t _ _ c.go_up.ensures)
+returns-in-256 c = rw c.in-256.is (gone c.args.t _ _ c.go_up.ensures)
 
-pub returns-in-Down : goal.returns-in-Down
+pub returns-in-257 : goal.returns-in-257
 unfolding key_action pressed acted steered switched stamps
-returns-in-Down c = rw c.in-Down.is (gone c.args.t _ _ c.go_down.ensures)
+returns-in-257 c = rw c.in-257.is (gone c.args.t _ _ c.go_down.ensures)
 
-pub returns-in-Right : goal.returns-in-Right
+pub returns-in-258 : goal.returns-in-258
 unfolding key_action pressed acted steered switched stamps
-returns-in-Right c = rw c.in-Right.is (gone c.args.t _ _ c.go_right.ensures)
+returns-in-258 c = rw c.in-258.is (gone c.args.t _ _ c.go_right.ensures)
 
-pub returns-in-Left : goal.returns-in-Left
+pub returns-in-259 : goal.returns-in-259
 unfolding key_action pressed acted steered switched stamps
-returns-in-Left c = rw c.in-Left.is (gone c.args.t _ _ c.go_left.ensures)
+returns-in-259 c = rw c.in-259.is (gone c.args.t _ _ c.go_left.ensures)
 
-pub returns-in-Home : goal.returns-in-Home
+pub returns-in-260 : goal.returns-in-260
 unfolding key_action pressed acted steered switched stamps
-returns-in-Home c = rw c.in-Home.is (gone c.args.t _ _ c.go_home.ensures)
+returns-in-260 c = rw c.in-260.is (gone c.args.t _ _ c.go_home.ensures)
 
-pub returns-in-HomeDown : goal.returns-in-HomeDown
+pub returns-in-261 : goal.returns-in-261
 unfolding key_action pressed acted steered switched stamps
-returns-in-HomeDown c = rw c.in-HomeDown.is (gone c.args.t _ _ c.go_home_down.ensures)
+returns-in-261 c = rw c.in-261.is (gone c.args.t _ _ c.go_home_down.ensures)
 
-pub returns-in-Tab : goal.returns-in-Tab
+pub returns-in-262 : goal.returns-in-262
 unfolding key_action pressed acted steered switched stamps
-returns-in-Tab c = rw c.in-Tab.is (gone c.args.t _ _ c.tab.ensures)
+returns-in-262 c = rw c.in-262.is (gone c.args.t _ _ c.tab.ensures)
 
-pub returns-in-BackTab : goal.returns-in-BackTab
+pub returns-in-263 : goal.returns-in-263
 unfolding key_action pressed acted steered switched stamps
-returns-in-BackTab c = rw c.in-BackTab.is (gone c.args.t _ _ c.back_tab.ensures)
+returns-in-263 c = rw c.in-263.is (gone c.args.t _ _ c.back_tab.ensures)
 
-pub returns-in-ClearDisplay : goal.returns-in-ClearDisplay
+pub returns-in-264 : goal.returns-in-264
 unfolding key_action pressed acted steered switched stamps
-returns-in-ClearDisplay c = rw c.in-ClearDisplay.is (edited c.args.t c.clear_display.ensures)
+returns-in-264 c = rw c.in-264.is (typed_at c.args.t c.clear_display.ensures)
 
-pub returns-in-ClearLine : goal.returns-in-ClearLine
+pub returns-in-265 : goal.returns-in-265
 unfolding key_action pressed acted steered switched stamps
-returns-in-ClearLine c = rw c.in-ClearLine.is (edited c.args.t c.clear_line.ensures)
+returns-in-265 c = rw c.in-265.is (typed_at c.args.t c.clear_line.ensures)
 
-pub returns-in-DeleteChar : goal.returns-in-DeleteChar
+pub returns-in-266 : goal.returns-in-266
 unfolding key_action pressed acted steered switched stamps
-returns-in-DeleteChar c = rw c.in-DeleteChar.is (edited c.args.t c.delete_char.ensures)
+returns-in-266 c = let a = c.args in rw c.in-266.is (insert-over _ _ (world a.t a.chars.now a.attrs.now))
 
-pub returns-in-Column0 : goal.returns-in-Column0
+pub returns-in-267 : goal.returns-in-267
 unfolding key_action pressed acted steered switched stamps
-returns-in-Column0 c = rw c.in-Column0.is (gone c.args.t _ _ c.go_in.ensures)
+returns-in-267 c = rw c.in-267.is (typed_at c.args.t c.delete_char.ensures)
 
-pub returns-in-RollUp : goal.returns-in-RollUp
+pub returns-in-268 : goal.returns-in-268
 unfolding key_action pressed acted steered switched stamps
-returns-in-RollUp c = rw c.in-RollUp.is (gone c.args.t _ _ c.rise.ensures)
+returns-in-268 c = rw c.in-268.is (gone c.args.t _ _ c.go_in.ensures)
 
-pub returns-in-RollDown : goal.returns-in-RollDown
+pub returns-in-269 : goal.returns-in-269
 unfolding key_action pressed acted steered switched stamps
-returns-in-RollDown c = rw c.in-RollDown.is (gone c.args.t _ _ c.fall.ensures)
+returns-in-269 c = rw c.in-269.is (gone c.args.t _ _ c.rise.ensures)
 
-pub returns-in-NextPage : goal.returns-in-NextPage
+pub returns-in-270 : goal.returns-in-270
 unfolding key_action pressed acted steered switched stamps
-returns-in-NextPage c = rw c.in-NextPage.is (gone c.args.t _ _ c.rise-in-NextPage.ensures)
+returns-in-270 c = rw c.in-270.is (gone c.args.t _ _ c.fall.ensures)
 
-pub returns-in-PrevPage : goal.returns-in-PrevPage
+pub returns-in-271 : goal.returns-in-271
 unfolding key_action pressed acted steered switched stamps
-returns-in-PrevPage c = rw c.in-PrevPage.is (gone c.args.t _ _ c.fall-in-PrevPage.ensures)
+returns-in-271 c = rw c.in-271.is (gone c.args.t _ _ c.rise-in-271.ensures)
 
-pub returns-in-Insert : goal.returns-in-Insert
+pub returns-in-272 : goal.returns-in-272
 unfolding key_action pressed acted steered switched stamps
-returns-in-Insert c =
+returns-in-272 c = rw c.in-272.is (gone c.args.t _ _ c.fall-in-272.ensures)
+
+pub returns-in-273 : goal.returns-in-273
+unfolding key_action pressed acted steered switched stamps
+returns-in-273 c = rw c.in-273.is
+
+pub returns-in_default : goal.returns-in_default
+unfolding key_action
+returns-in_default c =
     let a = c.args in
-    elim c.in-Insert.is [
-      | inl e ↦ rw e (insert-over _ _ (world a.t a.chars.now a.attrs.now))
-      | inr e ↦ rw e
-    ]
+    let unlisted : key_action a.code a.t.insert ≡ Action.rest = rw (
+      sym c.is_text.ensures ∙ c.if-is_text.false,
+      ne_eqb a.code 256 (omega arith),
+      ne_eqb a.code 257 (omega arith),
+      ne_eqb a.code 258 (omega arith),
+      ne_eqb a.code 259 (omega arith),
+      ne_eqb a.code 260 (omega arith),
+      ne_eqb a.code 261 (omega arith),
+      ne_eqb a.code 262 (omega arith),
+      ne_eqb a.code 263 (omega arith),
+      ne_eqb a.code 264 (omega arith),
+      ne_eqb a.code 265 (omega arith),
+      ne_eqb a.code 266 (omega arith),
+      ne_eqb a.code 267 (omega arith),
+      ne_eqb a.code 268 (omega arith),
+      ne_eqb a.code 269 (omega arith),
+      ne_eqb a.code 270 (omega arith),
+      ne_eqb a.code 271 (omega arith),
+      ne_eqb a.code 272 (omega arith),
+      ne_eqb a.code 273 (omega arith),
+    ) refl in
+    nothing-done _ _ _ (ne_eqb a.code 266 (omega arith)) (ne_eqb a.code 273 (omega arith)) unlisted

@@ -3,7 +3,7 @@ use Prim.Native.Nat.{◌-◌}
 use mathlib.Core.Path.{◌≡◌, refl, sym, ◌∙◌}
 use native.Mathlib.Omega.{arith}
 use Rattle.terminal.specs.State.{world}
-use Rattle.records.proofs.Whole.{whole-start, call-written, whole-turn, whole-last, whole-none}
+use Rattle.records.proofs.Whole.{whole-start, call-written, turn-after, whole-last, whole-none}
 use Rattle.records.proofs.run_on.Goals as goal
 
 pub loop-init : goal.loop-init
@@ -19,7 +19,7 @@ pub returns-then-a-full : goal.returns-then-a-full
 returns-then-a-full c =
     let l = c.loop in
     let a = c.args in
-    whole-last a.rows (world l.u l.chars l.attrs) a.bytes.now l.at l.sum l.reply (l.invariant.4 ∙ c.requires.2) c.run_from_on-a.ensures l.counter (omega arith) (λ z. c.if-a-full.true (z ∙ sym c.number-full.ensures))
+    whole-last a.rows (world l.u l.chars l.attrs) a.bytes.now l.at l.sum l.reply (l.invariant.4 ∙ c.requires.2) c.run_from_on-a.ensures (81 - l.counter) (omega arith) (λ z. c.if-a-full.true (z ∙ sym c.number-full.ensures))
     ∙ l.invariant.5
 
 pub loop-preserved : goal.loop-preserved
@@ -34,7 +34,7 @@ loop-preserved c =
       x.auto.chars ∙ l.invariant.2,
       x.auto.attrs ∙ l.invariant.3,
       x.auto.reply ∙ l.invariant.4,
-      whole-turn a.rows w a.bytes.now l.at l.sum l.reply room x.ensures l.counter (omega arith) (c.if-a-full.false ∙ c.number-full.ensures) ∙ l.invariant.5,
+      turn-after a.rows w a.bytes.now l.at l.sum l.reply room x.ensures l.counter (omega arith) (c.if-a-full.false ∙ c.number-full.ensures) ∙ l.invariant.5,
     )
 
 pub returns : goal.returns
